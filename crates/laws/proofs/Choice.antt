@@ -1,0 +1,51 @@
+-- The laws of a choice and of a named value: each takes one of them off the right side of a goal.
+--     yes, no      a choice whose test is known
+--     lets         a value that is named
+--     by-eq        two numbers are equal or not
+--     by-test      a test holds or fails
+--     tested       a fault's number that was not given: the test held, and what follows gave none either
+--     fails        no test both holds and fails
+--     and-both     a conjunction that holds
+-- Assumes nothing.
+use Prim.Native.Nat.{ℕ, suc}
+use mathlib.Core.Path.{_≡_, refl, ap, sym, _∙_}
+use mathlib.Core.Bool.{Bool, true, false, _&&_}
+use native.Mathlib.Omega.{arith}
+use lib.Dec.{eqb}
+use borrow.Author.Tests.{eqb-true, eqb-false}
+use Rattle.laws.specs.Choice.{pick, letting}
+
+pub yes : {A : Type 0} {z : A} (b : Bool) (x y : A) → b ≡ true → z ≡ x → z ≡ pick b x y
+unfolding pick
+yes b x y t e = rw t e
+
+pub no : {A : Type 0} {z : A} (b : Bool) (x y : A) → b ≡ false → z ≡ y → z ≡ pick b x y
+unfolding pick
+no b x y f e = rw f e
+
+pub lets : {A B : Type 0} {x y : A} {z : B} (k : A → B) → x ≡ y → z ≡ k x → z ≡ letting y k
+unfolding letting
+lets {z = z} k e q = rw (← e) q
+
+pub by-test : (b : Bool) {P : Type 0} → (b ≡ true → P) → (b ≡ false → P) → P
+by-test true y n = y refl
+by-test false y n = n refl
+
+pub by-eq : (a b : ℕ) {P : Type 0} → (a ≡ b → P) → ((a ≡ b → ⊥) → P) → P
+by-eq a b y n = by-test (eqb a b) (λ t. y (eqb-true a b t)) (λ f. n (eqb-false a b f))
+
+pub tested : (b : Bool) (rest number : ℕ) → pick b rest (suc number) ≡ 0 → (b ≡ true) × (rest ≡ 0)
+unfolding pick
+tested true rest number e = (refl, e)
+tested false rest number e = absurd (omega arith)
+
+pub fails : true ≡ false → ⊥
+fails q = let w : _≡_ {A = ℕ} (told true) (told false) = ap told q in omega arith
+  where
+    told : Bool → ℕ
+    told true = 1
+    told false = 0
+
+pub and-both : (a b : Bool) → (a && b) ≡ true → (a ≡ true) × (b ≡ true)
+and-both true b e = (refl, e)
+and-both false b e = (e, absurd (fails (sym e)))

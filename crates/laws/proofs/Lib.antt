@@ -1,0 +1,6 @@
+pub mod Choice
+pub mod Told
+pub mod First
+pub mod Lists
+pub mod Bounded
+pub mod Answers

@@ -1,0 +1,18 @@
+// What the code of all layers shares: tests that are all asked first and then joined.
+ghost use mathlib.Core.Path.{_≡_};
+ghost use mathlib.Core.Bool.{_&&_};
+ghost use Rattle.laws.specs.Choice.{pick};
+
+// Whether both tests hold.
+pub fn both(a: bool, b: bool) -> bool
+    ensures { λ r. ⌜ r ≡ (a && b) ⌝ }
+{
+    if a { b } else { false }
+}
+
+// What the tests after this one said where it holds, and else its own number.
+pub fn unless(ok: bool, number: u32, rest: u32) -> u32
+    ensures { λ r. ⌜ r ≡ pick ok rest number ⌝ }
+{
+    if ok { rest } else { number }
+}

@@ -1,0 +1,14 @@
+-- "Every answer is either a report or a refusal carrying number, place and detail (0 unless said)."
+use Prim.Native.Nat.{ℕ}
+use mathlib.Core.Bool.{Bool, true, false}
+use Rattle.laws.specs.Choice.{pick}
+use Rattle.pack.specs.declared.answer.Refusal.{Refusal}
+use Rattle.pack.specs.declared.answer.Reading.{Reading}
+use Rattle.pack.specs.declared.answer.Reading.the-variants.{Pack, Refused}
+
+abbrev pub refuse : ℕ → ℕ → ℕ → Reading
+refuse number place detail = Refused (record { number = number; place = place; detail = detail })
+
+-- "Places: 1 to 6, 37: 0.": where the test fails, that refusal at place 0; else what follows
+unfoldable pub needs : Bool → ℕ → Reading → Reading
+needs ok number rest = pick ok rest (refuse number 0 0)
