@@ -1,19 +1,22 @@
 -- The laws of a choice and of a named value: each takes one of them off the right side of a goal.
 --     yes, no      a choice whose test is known
 --     lets         a value that is named
+--     past-kinds   a kind past all rules
 --     by-eq        two numbers are equal or not
 --     by-test      a test holds or fails
 --     tested       a fault's number that was not given: the test held, and what follows gave none either
 --     fails        no test both holds and fails
 --     and-both     a conjunction that holds
 -- Assumes nothing.
-use Prim.Native.Nat.{ℕ, suc}
+use Prim.Native.Nat.{ℕ, suc, _≤_}
 use mathlib.Core.Path.{_≡_, refl, ap, sym, _∙_}
 use mathlib.Core.Bool.{Bool, true, false, _&&_}
+use mathlib.Core.List.{List}
 use native.Mathlib.Omega.{arith}
 use lib.Dec.{eqb}
+use lib.ListN.{length, List·getD-eq-default}
 use borrow.Author.Tests.{eqb-true, eqb-false}
-use Rattle.laws.specs.Choice.{pick, letting}
+use Rattle.laws.specs.Choice.{pick, letting, byKind}
 
 pub yes : {A : Type 0} {z : A} (b : Bool) (x y : A) → b ≡ true → z ≡ x → z ≡ pick b x y
 unfolding pick
@@ -26,6 +29,9 @@ no b x y f e = rw f e
 pub lets : {A B : Type 0} {x y : A} {z : B} (k : A → B) → x ≡ y → z ≡ k x → z ≡ letting y k
 unfolding letting
 lets {z = z} k e q = rw (← e) q
+
+pub past-kinds : {R A : Type 0} (r : R) (kind : ℕ) (other : A) (rules : List (R → A)) → length rules ≤ kind → other ≡ byKind r kind other rules
+past-kinds r kind other rules h = ap (λ f. f r) (sym (List·getD-eq-default rules (λ x. other) h))
 
 pub by-test : (b : Bool) {P : Type 0} → (b ≡ true → P) → (b ≡ false → P) → P
 by-test true y n = y refl

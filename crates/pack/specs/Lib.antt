@@ -4,3 +4,4 @@ pub mod Counts
 pub mod Header
 pub mod Rows
 pub mod Lists
+pub mod Named
