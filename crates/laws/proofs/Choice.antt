@@ -8,7 +8,7 @@
 --     fails        no test both holds and fails
 --     and-both     a conjunction that holds
 -- Assumes nothing.
-use Prim.Native.Nat.{ℕ, suc, _≤_}
+use Prim.Native.Nat.{ℕ, zero, suc, _≤_}
 use mathlib.Core.Path.{_≡_, refl, ap, sym, _∙_}
 use mathlib.Core.Bool.{Bool, true, false, _&&_}
 use mathlib.Core.List.{List}
@@ -30,8 +30,18 @@ pub lets : {A B : Type 0} {x y : A} {z : B} (k : A → B) → x ≡ y → z ≡ 
 unfolding letting
 lets {z = z} k e q = rw (← e) q
 
-pub past-kinds : {R A : Type 0} (r : R) (kind : ℕ) (other : A) (rules : List (R → A)) → length rules ≤ kind → other ≡ byKind r kind other rules
-past-kinds r kind other rules h = ap (λ f. f r) (sym (List·getD-eq-default rules (λ x. other) h))
+-- k is none of 0 .. n - 1, as the last arm of a `match` has it
+abbrev pub NoneOf : ℕ → ℕ → Type 0
+NoneOf k zero = Unit {0}
+NoneOf k (suc n) = NoneOf k n × (k ≡ n → ⊥)
+
+pub past : (k n : ℕ) → NoneOf k n → n ≤ k
+past k zero r = omega arith
+past k (suc n) r = omega (arith, past k n (r .0), r .1)
+
+pub past-kinds : {R A : Type 0} (r : R) (kind : ℕ) (other : A) (rules : List (R → A)) → NoneOf kind (length rules) → other ≡ byKind r kind other rules
+unfolding byKind
+past-kinds r kind other rules h = ap (λ f. f r) (sym (List·getD-eq-default rules (λ x. other) (past kind (length rules) h)))
 
 pub by-test : (b : Bool) {P : Type 0} → (b ≡ true → P) → (b ≡ false → P) → P
 by-test true y n = y refl

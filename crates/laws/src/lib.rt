@@ -1,6 +1,6 @@
 // What the code of all layers shares: tests that are all asked first and then joined.
 ghost use mathlib.Core.Path.{_≡_};
-ghost use mathlib.Core.Bool.{_&&_};
+ghost use mathlib.Core.Bool.{_&&_, _||_};
 ghost use Rattle.laws.specs.Choice.{pick};
 
 // Whether both tests hold.
@@ -8,6 +8,13 @@ pub fn both(a: bool, b: bool) -> bool
     ensures { λ r. ⌜ r ≡ (a && b) ⌝ }
 {
     if a { b } else { false }
+}
+
+// Whether one of the tests holds.
+pub fn either(a: bool, b: bool) -> bool
+    ensures { λ r. ⌜ r ≡ (a || b) ⌝ }
+{
+    if a { true } else { b }
 }
 
 // What the tests after this one said where it holds, and else its own number.

@@ -12,3 +12,8 @@ refuse number place detail = Refused (record { number = number; place = place; d
 -- "Places: 1 to 6, 37: 0.": where the test fails, that refusal at place 0; else what follows
 unfoldable pub needs : Bool → ℕ → Reading → Reading
 needs ok number rest = pick ok rest (refuse number 0 0)
+
+-- whether nothing was refused so far
+abbrev pub passes : Reading → Bool
+passes (Pack c) = true
+passes (Refused r) = false

@@ -1,0 +1,4 @@
+pub mod RunLaws
+pub mod NameLaws
+pub mod ListLaws
+pub mod TableLaws

@@ -1,0 +1,10 @@
+pub mod Limits
+pub mod Runs
+pub mod Lists
+pub mod Names
+pub mod Types
+pub mod Definitions
+pub mod Expressions
+pub mod Roots
+pub mod Values
+pub mod Tables
