@@ -6,7 +6,7 @@
 --     ends     past the last place there is no fault
 -- The same for a test of each place (AllLeft), and for rows whose rule gives the number of a fault, or 0 (RowsLeft).
 -- What an answer says of the places:
---     each        where no fault is the answer, each place is right
+--     each        where the answer passes and no fault would, each place is right
 --     none-is     and the other way round
 --     at-first    the answer at a place that fails, where all before it are right
 --     all-more    a test of each place, taken one place further
@@ -68,15 +68,19 @@ module _ {A : Type 0} {rule : ℕ → ℕ} {fault : ℕ → A} {none : A} {i n :
 -- ---- what an answer says of the places
 
 module _ {A : Type 0} (ok : ℕ → Bool) (fault : ℕ → A) (none : A) where
-  pub each : (n i : ℕ) → ((k : ℕ) → fault k ≡ none → ⊥) → first ok fault none i n ≡ none → (k : ℕ) → i ≤ k → k < n → ok k ≡ true
-  each n i nf e k l h = go (n - i) i (omega arith) e l
+  pub each : (passes : A → Bool) → ((k : ℕ) → ok k ≡ false → passes (fault k) ≡ false) → (n i : ℕ) → passes (first ok fault none i n) ≡ true
+      → (k : ℕ) → i ≤ k → k < n → ok k ≡ true
+  each passes stop n i e k l h = go (n - i) i (omega arith) e l
     where
-      go : (m i : ℕ) → i + m ≡ n → first ok fault none i n ≡ none → i ≤ k → ok k ≡ true
+      go : (m i : ℕ) → i + m ≡ n → passes (first ok fault none i n) ≡ true → i ≤ k → ok k ≡ true
       go zero i w e l = absurd (omega arith)
-      go (suc m) i w e l = by-test (ok i) (λ t. by-eq k i (λ q. rw q t) (λ q. go m (i + 1) (omega arith) (yes (ok i) _ (fault i) t refl ∙ s) (omega arith))) (λ f. absurd (nf i (no (ok i) (first ok fault none (i + 1) n) _ f refl ∙ s)))
+      go (suc m) i w e l =
+          by-test (ok i)
+          (λ t. by-eq k i (λ q. rw q t) (λ q. go m (i + 1) (omega arith) (ap passes (yes (ok i) _ (fault i) t refl) ∙ s) (omega arith)))
+          (λ f. absurd (fails (sym s ∙ ap passes (sym (no (ok i) (first ok fault none (i + 1) n) _ f refl)) ∙ stop i f)))
         where
-          s : pick (ok i) (first ok fault none (i + 1) n) (fault i) ≡ none
-          s = sym (first-at ok fault none i n (omega arith)) ∙ e
+          s : passes (pick (ok i) (first ok fault none (i + 1) n) (fault i)) ≡ true
+          s = ap passes (sym (first-at ok fault none i n (omega arith))) ∙ e
 
   passed : (d i n : ℕ) → ((k : ℕ) → i ≤ k → k < i + d → ok k ≡ true) → i + d ≤ n → first ok fault none i n ≡ first ok fault none (i + d) n
   passed zero i n r l = rw add-zero
@@ -134,16 +138,16 @@ until-is ok i n l = let e : i + (n - i) ≡ n = omega arith in go (n - i) i e
         at : until ok i n ≡ pick (ok i) (until ok (i + 1) n) i
         at = first-at ok (λ k. k) n i n (omega arith)
 
--- a place that fails makes a test of each place fail
-pub all-false : (ok : ℕ → Bool) (k n : ℕ) → k < n → ok k ≡ false → all ok 0 n ≡ false
-all-false ok k n l f = by-test (all ok 0 n) (λ t. absurd (fails (sym (each ok (λ j. false) true n 0 (λ j e. fails (sym e)) t k (omega arith) l) ∙ f))) (λ g. g)
+-- what a test of each place says where it holds
+pub all-each : (ok : ℕ → Bool) (n : ℕ) → all ok 0 n ≡ true → (k : ℕ) → k < n → ok k ≡ true
+all-each ok n t k l = each ok (λ j. false) true (λ b. b) (λ j f. refl) n 0 t k (omega arith) l
 
 pub all-true : (ok : ℕ → Bool) (n : ℕ) → ((k : ℕ) → k < n → ok k ≡ true) → all ok 0 n ≡ true
 all-true ok n r = none-is ok (λ j. false) true 0 n (λ k a b. r k b)
 
--- and what it says of each place where it holds
-pub all-each : (ok : ℕ → Bool) (n : ℕ) → all ok 0 n ≡ true → (k : ℕ) → k < n → ok k ≡ true
-all-each ok n t k l = each ok (λ j. false) true n 0 (λ j e. fails (sym e)) t k (omega arith) l
+-- a place that fails makes it fail
+pub all-false : (ok : ℕ → Bool) (k n : ℕ) → k < n → ok k ≡ false → all ok 0 n ≡ false
+all-false ok k n l f = by-test (all ok 0 n) (λ t. absurd (fails (sym (all-each ok n t k l) ∙ f))) (λ g. g)
 
 pub all-until : (ok : ℕ → Bool) (a n w : ℕ) → a + n ≤ w → all (λ k. ok (a + k)) 0 n ≡ leb (a + n) (until ok a w)
 all-until ok a n w l =

@@ -2,3 +2,4 @@ pub mod RunLaws
 pub mod NameLaws
 pub mod ListLaws
 pub mod TableLaws
+pub mod Promises

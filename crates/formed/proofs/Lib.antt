@@ -1,0 +1,4 @@
+pub mod NoteLaws
+pub mod TreeLaws
+pub mod StepLaws
+pub mod Ready

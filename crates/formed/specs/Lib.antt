@@ -1,0 +1,4 @@
+pub mod Nodes
+pub mod Formed
+pub mod Notes
+pub mod Trees
