@@ -1,0 +1,14 @@
+-- Answers as numbers: "a refusal carrying number, place and detail (0 unless said)". Where nothing is refused all three are 0.
+use mathlib.Core.Bool.{Bool, _&&_}
+use lib.Dec.{eqb}
+use Rattle.pack.specs.declared.answer.Reading.{Reading}
+use Rattle.pack.specs.declared.answer.Reading.the-variants.{Pack, Refused}
+use Rattle.worked.specs.declared.answers.Answer.{Answer}
+
+abbrev pub numbersOf : Reading → Answer
+numbersOf (Pack c) = record { number = 0; place = 0; detail = 0 }
+numbersOf (Refused r) = record { number = r .number; place = r .place; detail = r .detail }
+
+-- all three are equal
+unfoldable pub same : Answer → Answer → Bool
+same a b = eqb (a .number) (b .number) && eqb (a .place) (b .place) && eqb (a .detail) (b .detail)

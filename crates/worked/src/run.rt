@@ -1,0 +1,179 @@
+// Running the cases: the words of the text one after the other.
+ghost use Prim.Native.Nat.{_≤_};
+ghost use lib.ListN.{length};
+use crate::answers::Answer;
+use crate::answers::is_same;
+use crate::answers::numbers_of;
+use crate::build::Grown;
+use crate::build::put_word;
+use crate::report::differs;
+use crate::report::group_sums;
+use crate::report::not_understood;
+use crate::report::nothing_asked;
+use crate::report::sums;
+use crate::state::DETAIL;
+use crate::state::NAME;
+use crate::state::NUMBER;
+use crate::state::PLACE;
+use crate::state::Run;
+use crate::state::WORD;
+use crate::state::begun;
+use crate::state::named;
+use crate::state::one_differs;
+use crate::state::with_next;
+use crate::state::with_size;
+use crate::words::Word;
+use crate::words::decimal;
+use crate::words::is_number;
+use crate::words::meaning;
+use crate::words::one_more;
+use crate::words::word_end;
+use crate::words::word_start;
+use formed::formed;
+
+// A byte more than the longest pack that a case may have, which is a byte longer than the longest that can be read.
+const ROOM: usize = 65538;
+
+// A word that can't be run counts as a case that differs, so that it isn't overlooked.
+fn fault(text: &[u8], at: usize, run: Run) -> Run {
+    not_understood(text, at);
+    with_next(one_differs(run), WORD)
+}
+
+// So does a case that ends with nothing asked of it.
+fn end_case(text: &[u8], at: usize, run: Run) -> Run {
+    if run.asked {
+        run
+    } else {
+        nothing_asked(text, at);
+        one_differs(run)
+    }
+}
+
+fn new_case(text: &[u8], at: usize, run: Run) -> Run {
+    let mut r = end_case(text, at, run);
+    r.size = 0;
+    r.asked = false;
+    r
+}
+
+// Writes the group's sums, if there was one, and starts another.
+fn end_group(text: &[u8], at: usize, run: Run) -> Run {
+    let mut r = end_case(text, at, run);
+    if r.name < r.name_end {
+        group_sums(text, r.name, r.name_end, r.cases, r.differ);
+    }
+    r.asked = true;
+    r.cases = 0;
+    r.differ = 0;
+    r
+}
+
+// A text that ends where a word is still asked for is a fault.
+fn end_words(text: &[u8], run: Run) -> Run {
+    if run.next == WORD {
+        run
+    } else {
+        fault(text, text.len(), run)
+    }
+}
+
+fn end_text(text: &[u8], run: Run) {
+    let whole = end_words(text, run);
+    let r = end_group(text, text.len(), whole);
+    sums(r.all_cases, r.all_differ);
+}
+
+// A word that has to be bytes of the pack.
+fn bytes(text: &[u8], at: usize, word: &[u8], pack: &mut [u8], run: Run) -> Run {
+    let grown = put_word(word, pack, run.size);
+    match grown {
+        Grown::To(size) => with_size(run, size),
+        Grown::Nothing => fault(text, at, run),
+    }
+}
+
+// A word that no other asked for.
+fn plain_word(text: &[u8], at: usize, word: &[u8], pack: &mut [u8], run: Run) -> Run {
+    let says = meaning(word);
+    match says {
+        Word::Group => with_next(end_group(text, at, run), NAME),
+        Word::Case => new_case(text, at, run),
+        Word::Formed => with_next(run, NUMBER),
+        Word::Other => bytes(text, at, word, pack, run),
+    }
+}
+
+// One of the three numbers that are wanted.
+fn wanted(text: &[u8], at: usize, word: &[u8], pack: &[u8], run: Run) -> Run {
+    let n = decimal(word);
+    let mut r = run;
+    if is_number(word, 10) {
+        if run.next == NUMBER {
+            r.number = n;
+            r.next = PLACE;
+            return r;
+        }
+        if run.next == PLACE {
+            r.place = n;
+            r.next = DETAIL;
+            return r;
+        }
+        return ask(text, at, pack, n, run);
+    }
+    fault(text, at, run)
+}
+
+// Holds the answer to what is wanted.
+fn ask(text: &[u8], at: usize, pack: &[u8], detail: u64, run: Run) -> Run {
+    let size = run.size;
+    if size >= pack.len() {
+        return fault(text, at, run);
+    }
+    let came = numbers_of(formed(&pack[0..size]));
+    let wanted = Answer {
+        number: run.number,
+        place: run.place,
+        detail: detail,
+    };
+    let mut r = run;
+    r.asked = true;
+    r.next = WORD;
+    r.cases = one_more(run.cases);
+    r.all_cases = one_more(run.all_cases);
+    if is_same(came, wanted) {
+        return r;
+    }
+    differs(text, at, wanted, came);
+    one_differs(r)
+}
+
+// The word from `at` to `end`.
+fn take(text: &[u8], at: usize, end: usize, pack: &mut [u8], run: Run) -> Run
+    requires { ⌜ (at ≤ end) × (end ≤ length (now text)) ⌝ }
+{
+    let word = &text[at..end];
+    let next = run.next;
+    match next {
+        WORD => plain_word(text, at, word, pack, run),
+        NAME => named(at, end, run),
+        _ => wanted(text, at, word, pack, run),
+    }
+}
+
+// The words of the text one after the other, with room for a pack.
+fn run_in(text: &[u8], pack: &mut [u8]) {
+    let mut run = begun();
+    let mut at = word_start(text, 0);
+    while at < text.len() {
+        let end = word_end(text, at);
+        run = take(text, at, end, pack, run);
+        at = word_start(text, end);
+    }
+    end_text(text, run);
+}
+
+pub fn run_all(text: &[u8]) {
+    let mut pack = [0u8; ROOM];
+    run_in(text, &mut pack);
+}

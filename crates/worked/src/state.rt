@@ -1,0 +1,75 @@
+// How far the text has been run, as a value that each word changes.
+use crate::words::one_more;
+
+// What the next word is.
+pub const WORD: u32 = 0;
+
+pub const NAME: u32 = 1;
+
+pub const NUMBER: u32 = 2;
+
+pub const PLACE: u32 = 3;
+
+pub const DETAIL: u32 = 4;
+
+pub struct Run {
+    pub next: u32,
+    // Where the group's name stands in the text.
+    pub name: usize,
+    pub name_end: usize,
+    // Of this group, and of all.
+    pub cases: u64,
+    pub differ: u64,
+    pub all_cases: u64,
+    pub all_differ: u64,
+    // How many bytes the case's pack has so far, and whether anything was asked of it.
+    pub size: usize,
+    pub asked: bool,
+    // What is wanted, as far as it was read.
+    pub number: u64,
+    pub place: u64,
+}
+
+pub fn begun() -> Run {
+    Run {
+        next: WORD,
+        name: 0,
+        name_end: 0,
+        cases: 0,
+        differ: 0,
+        all_cases: 0,
+        all_differ: 0,
+        size: 0,
+        asked: true,
+        number: 0,
+        place: 0,
+    }
+}
+
+pub fn with_next(run: Run, next: u32) -> Run {
+    let mut r = run;
+    r.next = next;
+    r
+}
+
+pub fn with_size(run: Run, size: usize) -> Run {
+    let mut r = run;
+    r.size = size;
+    r
+}
+
+pub fn one_differs(run: Run) -> Run {
+    let mut r = run;
+    r.differ = one_more(run.differ);
+    r.all_differ = one_more(run.all_differ);
+    r
+}
+
+// The word from `at` to `end` is a group's name.
+pub fn named(at: usize, end: usize, run: Run) -> Run {
+    let mut r = run;
+    r.name = at;
+    r.name_end = end;
+    r.next = WORD;
+    r
+}
