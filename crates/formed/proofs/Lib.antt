@@ -2,3 +2,5 @@ pub mod NoteLaws
 pub mod TreeLaws
 pub mod StepLaws
 pub mod Ready
+pub mod Promises
+pub mod Examples

@@ -8,6 +8,7 @@ use native.Mathlib.Omega.{arith}
 use lib.ListN.{length}
 use borrow.Author.Tests.{leb-true, eqb-true}
 use Rattle.laws.specs.Choice.{pick}
+use Rattle.laws.proofs.Choice.{fails}
 use Rattle.pack.specs.Answer.{refuse, needs, passes}
 use Rattle.pack.specs.Counts.{inLimits, sizeOf}
 use Rattle.pack.specs.Header.{countsOf, headerOf}
@@ -21,18 +22,28 @@ pub record Headed (p : List ℕ) (c : Counts) : Type 0 where
   pub exact : length p ≡ sizeOf c
 
 -- a test that was passed
-kept : (b : Bool) (number : ℕ) (rest : Reading) (c : Counts) → needs b number rest ≡ Pack c → (b ≡ true) × (rest ≡ Pack c)
+kept : (b : Bool) (number : ℕ) (rest : Reading) → passes (needs b number rest) ≡ true → (b ≡ true) × (needs b number rest ≡ rest)
 unfolding needs pick
-kept true number rest c e = (refl, e)
-kept false number rest c e = let z : _≡_ {A = ℕ} 0 1 = cc in absurd (omega arith)
+kept true number rest e = (refl, refl)
+kept false number rest e = absurd (fails (sym e))
+
+-- a header that passes: its answer, and what that says
+pub header-passed : (p : List ℕ) → passes (headerOf p) ≡ true → (headerOf p ≡ Pack (countsOf p)) × Headed p (countsOf p)
+unfolding headerOf
+header-passed p t =
+    let long = kept _ 1 _ t in
+    let named = kept _ 2 _ (ap passes (sym (long .1)) ∙ t) in
+    let edition = kept _ 2 _ (ap passes (sym (named .1)) ∙ ap passes (sym (long .1)) ∙ t) in
+    let so-far = long .1 ∙ named .1 ∙ edition .1 in
+    let limited = kept _ 3 _ (ap passes (sym so-far) ∙ t) in
+    let exact = kept _ 4 _ (ap passes (sym (so-far ∙ limited .1)) ∙ t) in
+    (so-far ∙ limited .1 ∙ exact .1, record { counts = refl; limits = limited .0; exact = eqb-true _ _ (exact .0) })
 
 pub header-is : (p : List ℕ) (c : Counts) → headerOf p ≡ Pack c → Headed p c
-unfolding headerOf
 header-is p c e =
-    let long = kept _ 1 _ c e in
-    let named = kept _ 2 _ c (long .1) in
-    let edition = kept _ 2 _ c (named .1) in
-    let limited = kept _ 3 _ c (edition .1) in
-    let exact = kept _ 4 _ c (limited .1) in
-    let same : c ≡ countsOf p = cc in
-    record { counts = same; limits = rw same (limited .0); exact = rw same (eqb-true _ _ (exact .0)) }
+    let h = header-passed p (ap passes e) in
+    let same : c ≡ countsOf p = pack-same (sym e ∙ h .0) in
+    rw same (h .1)
+  where
+    pack-same : {x y : Counts} → Pack x ≡ Pack y → x ≡ y
+    pack-same q = cc

@@ -17,3 +17,16 @@ needs ok number rest = pick ok rest (refuse number 0 0)
 abbrev pub passes : Reading → Bool
 passes (Pack c) = true
 passes (Refused r) = false
+
+-- "this paper's number and values for each case of the enum": 0 for a report
+abbrev pub numberOf : Reading → ℕ
+numberOf (Pack c) = 0
+numberOf (Refused r) = r .number
+
+abbrev pub placeOf : Reading → ℕ
+placeOf (Pack c) = 0
+placeOf (Refused r) = r .place
+
+abbrev pub detailOf : Reading → ℕ
+detailOf (Pack c) = 0
+detailOf (Refused r) = r .detail
