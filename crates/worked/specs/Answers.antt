@@ -2,12 +2,11 @@
 use mathlib.Core.Bool.{Bool, _&&_}
 use lib.Dec.{eqb}
 use Rattle.pack.specs.declared.answer.Reading.{Reading}
-use Rattle.pack.specs.declared.answer.Reading.the-variants.{Pack, Refused}
+use Rattle.pack.specs.Answer.{numberOf, placeOf, detailOf}
 use Rattle.worked.specs.declared.answers.Answer.{Answer}
 
 abbrev pub numbersOf : Reading → Answer
-numbersOf (Pack c) = record { number = 0; place = 0; detail = 0 }
-numbersOf (Refused r) = record { number = r .number; place = r .place; detail = r .detail }
+numbersOf a = record { number = numberOf a; place = placeOf a; detail = detailOf a }
 
 -- all three are equal
 unfoldable pub same : Answer → Answer → Bool

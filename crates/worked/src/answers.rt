@@ -10,7 +10,7 @@ pub struct Answer {
     pub detail: u64,
 }
 
-pub fn numbers_of(reading: Reading) -> Answer
+pub(crate) fn numbers_of(reading: Reading) -> Answer
     ensures { λ r. ⌜ r ≡ numbersOf reading ⌝ }
 {
     match reading {
@@ -27,7 +27,7 @@ pub fn numbers_of(reading: Reading) -> Answer
     }
 }
 
-pub fn is_same(a: Answer, b: Answer) -> bool
+pub(crate) fn is_same(a: Answer, b: Answer) -> bool
     ensures { λ r. ⌜ r ≡ same a b ⌝ }
 {
     let place = both(a.number == b.number, a.place == b.place);

@@ -24,7 +24,7 @@ fn byte_of(high: u8, low: u8) -> u8 {
 }
 
 // Writes a byte at n where there is room, and answers where the next one goes.
-pub fn put(pack: &mut [u8], n: usize, byte: u8) -> usize {
+pub(crate) fn put(pack: &mut [u8], n: usize, byte: u8) -> usize {
     if n < pack.len() {
         pack[n] = byte;
         n + 1
@@ -51,7 +51,7 @@ fn kept(high: u8, d: u8) -> u8 {
 }
 
 // Writes the bytes that the digits stand for.
-pub fn put_hex(digits: &[u8], pack: &mut [u8], size: usize) -> usize {
+pub(crate) fn put_hex(digits: &[u8], pack: &mut [u8], size: usize) -> usize {
     let mut n = size;
     let mut i = 0;
     let mut high = NONE;
@@ -96,7 +96,7 @@ fn put_many(times: u64, what: &[u8], pack: &mut [u8], size: usize) -> Grown {
 }
 
 // Writes the bytes of a word after the first `size`.
-pub fn put_word(word: &[u8], pack: &mut [u8], size: usize) -> Grown {
+pub(crate) fn put_word(word: &[u8], pack: &mut [u8], size: usize) -> Grown {
     let star = find(word, b'*');
     if star < word.len() {
         let from = star + 1;

@@ -24,7 +24,7 @@ fn say_line(text: &[u8], at: usize) {
     say_number(line_of(text, at));
 }
 
-pub fn differs(text: &[u8], at: usize, wanted: Answer, came: Answer) {
+pub(crate) fn differs(text: &[u8], at: usize, wanted: Answer, came: Answer) {
     say_line(text, at);
     say(b": wanted ");
     say_answer(wanted);
@@ -33,17 +33,17 @@ pub fn differs(text: &[u8], at: usize, wanted: Answer, came: Answer) {
     say(b"\n");
 }
 
-pub fn not_understood(text: &[u8], at: usize) {
+pub(crate) fn not_understood(text: &[u8], at: usize) {
     say_line(text, at);
     say(b": not understood\n");
 }
 
-pub fn nothing_asked(text: &[u8], at: usize) {
+pub(crate) fn nothing_asked(text: &[u8], at: usize) {
     say_line(text, at);
     say(b": the case before asks nothing\n");
 }
 
-pub fn sums(cases: u64, differ: u64) {
+pub(crate) fn sums(cases: u64, differ: u64) {
     say_number(cases);
     say(b" cases, ");
     say_number(differ);
@@ -51,7 +51,7 @@ pub fn sums(cases: u64, differ: u64) {
 }
 
 // The sums of the group whose name stands in the text from `from` to `to`.
-pub fn group_sums(text: &[u8], from: usize, to: usize, cases: u64, differ: u64) {
+pub(crate) fn group_sums(text: &[u8], from: usize, to: usize, cases: u64, differ: u64) {
     if from <= to {
         if to <= text.len() {
             say(&text[from..to]);
@@ -61,6 +61,6 @@ pub fn group_sums(text: &[u8], from: usize, to: usize, cases: u64, differ: u64) 
     sums(cases, differ);
 }
 
-pub fn too_long() {
+pub(crate) fn too_long() {
     say(b"the text is too long\n");
 }

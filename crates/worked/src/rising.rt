@@ -82,7 +82,13 @@ fn put_rows(
 }
 
 // The same of a row and a step in digits.
-pub fn put_rising(times: u64, digits: &[u8], step: &[u8], pack: &mut [u8], size: usize) -> usize {
+pub(crate) fn put_rising(
+    times: u64,
+    digits: &[u8],
+    step: &[u8],
+    pack: &mut [u8],
+    size: usize,
+) -> usize {
     let mut row = [0u8; MAX_ROW];
     let len = put_hex(digits, &mut row, 0);
     let mut by = [0u8; MAX_ROW];
@@ -91,7 +97,7 @@ pub fn put_rising(times: u64, digits: &[u8], step: &[u8], pack: &mut [u8], size:
 }
 
 // Whether a row and its step are bytes, as many of both, and not too many.
-pub fn can_rise(digits: &[u8], step: &[u8]) -> bool {
+pub(crate) fn can_rise(digits: &[u8], step: &[u8]) -> bool {
     if digits.len() != step.len() {
         return false;
     }

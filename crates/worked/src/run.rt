@@ -173,7 +173,7 @@ fn run_in(text: &[u8], pack: &mut [u8]) {
     end_text(text, run);
 }
 
-pub fn run_all(text: &[u8]) {
+pub(crate) fn run_all(text: &[u8]) {
     let mut pack = [0u8; ROOM];
     run_in(text, &mut pack);
 }

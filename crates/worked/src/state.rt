@@ -30,7 +30,7 @@ pub struct Run {
     pub place: u64,
 }
 
-pub fn begun() -> Run {
+pub(crate) fn begun() -> Run {
     Run {
         next: WORD,
         name: 0,
@@ -46,19 +46,19 @@ pub fn begun() -> Run {
     }
 }
 
-pub fn with_next(run: Run, next: u32) -> Run {
+pub(crate) fn with_next(run: Run, next: u32) -> Run {
     let mut r = run;
     r.next = next;
     r
 }
 
-pub fn with_size(run: Run, size: usize) -> Run {
+pub(crate) fn with_size(run: Run, size: usize) -> Run {
     let mut r = run;
     r.size = size;
     r
 }
 
-pub fn one_differs(run: Run) -> Run {
+pub(crate) fn one_differs(run: Run) -> Run {
     let mut r = run;
     r.differ = one_more(run.differ);
     r.all_differ = one_more(run.all_differ);
@@ -66,7 +66,7 @@ pub fn one_differs(run: Run) -> Run {
 }
 
 // The word from `at` to `end` is a group's name.
-pub fn named(at: usize, end: usize, run: Run) -> Run {
+pub(crate) fn named(at: usize, end: usize, run: Run) -> Run {
     let mut r = run;
     r.name = at;
     r.name_end = end;

@@ -31,7 +31,7 @@ fn in_comment(b: u8, comment: bool) -> bool {
 }
 
 // Where the first word from `from` on starts; no place of the text where there is none.
-pub fn word_start(text: &[u8], from: usize) -> usize
+pub(crate) fn word_start(text: &[u8], from: usize) -> usize
     ensures { λ r. ⌜ from ≤ r ⌝ }
 {
     let mut i = from;
@@ -49,7 +49,7 @@ pub fn word_start(text: &[u8], from: usize) -> usize
 }
 
 // Where the word that starts at `start` ends.
-pub fn word_end(text: &[u8], start: usize) -> usize
+pub(crate) fn word_end(text: &[u8], start: usize) -> usize
     requires { ⌜ start < length (now text) ⌝ }
     ensures { λ r. ⌜ (start < r) × (r ≤ length (now (text .entry))) ⌝ }
 {
@@ -64,7 +64,7 @@ pub fn word_end(text: &[u8], start: usize) -> usize
 }
 
 // What a digit stands for, 16 for a byte that is none.
-pub fn digit(b: u8) -> u8
+pub(crate) fn digit(b: u8) -> u8
     ensures { λ r. ⌜ r ≤ 16 ⌝ }
 {
     if b < b'0' {
@@ -80,7 +80,7 @@ pub fn digit(b: u8) -> u8
 }
 
 // Whether there are digits, all of them below `base`.
-pub fn is_number(word: &[u8], base: u8) -> bool {
+pub(crate) fn is_number(word: &[u8], base: u8) -> bool {
     let mut i = 0;
     while i < word.len() {
         if digit(word[i]) >= base {
@@ -102,7 +102,7 @@ fn with_digit(n: u64, d: u8) -> u64
     }
 }
 
-pub fn decimal(word: &[u8]) -> u64 {
+pub(crate) fn decimal(word: &[u8]) -> u64 {
     let mut n = 0;
     let mut i = 0;
     while i < word.len() {
@@ -113,7 +113,7 @@ pub fn decimal(word: &[u8]) -> u64 {
 }
 
 // Where a byte stands first, the word's length where it does not.
-pub fn find(word: &[u8], b: u8) -> usize
+pub(crate) fn find(word: &[u8], b: u8) -> usize
     ensures { λ r. ⌜ r ≤ length (now (word .entry)) ⌝ }
 {
     let mut i = 0;
@@ -127,7 +127,7 @@ pub fn find(word: &[u8], b: u8) -> usize
 }
 
 // Whether these are bytes in hexadecimal digits.
-pub fn is_hex(word: &[u8]) -> bool {
+pub(crate) fn is_hex(word: &[u8]) -> bool {
     if word.len() % 2 == 0 {
         is_number(word, 16)
     } else {
@@ -135,7 +135,7 @@ pub fn is_hex(word: &[u8]) -> bool {
     }
 }
 
-pub fn meaning(word: &[u8]) -> Word {
+pub(crate) fn meaning(word: &[u8]) -> Word {
     if same(word, b"group") {
         return Word::Group;
     }
@@ -149,7 +149,7 @@ pub fn meaning(word: &[u8]) -> Word {
 }
 
 // The number of the line in which a place of the text stands.
-pub fn line_of(text: &[u8], at: usize) -> u64 {
+pub(crate) fn line_of(text: &[u8], at: usize) -> u64 {
     let mut line = 1;
     let mut i = 0;
     while i < text.len() {
@@ -165,6 +165,6 @@ pub fn line_of(text: &[u8], at: usize) -> u64 {
 }
 
 // One more. Nothing that is counted here comes near the largest number.
-pub fn one_more(n: u64) -> u64 {
+pub(crate) fn one_more(n: u64) -> u64 {
     if n < u64::MAX { n + 1 } else { n }
 }
