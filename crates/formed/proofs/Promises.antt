@@ -24,6 +24,7 @@ use Rattle.pack.specs.declared.answer.Reading.{Reading}
 use Rattle.pack.specs.declared.answer.Reading.the-variants.{Pack, Refused}
 use Rattle.pack.proofs.HeaderLaws.{Headed, header-passed}
 use Rattle.rows.specs.Tables.{rowsOf}
+use Rattle.rows.proofs.Promises.{root-inside}
 use Rattle.formed.specs.Nodes.{bodiesOf, usesOf, statedOf, depthOf, maxDepth, nodeFits, nodesOf}
 use Rattle.formed.specs.Formed.{treesOf, bodyOf, formedOf}
 use Rattle.formed.specs.Trees.{Trees}
@@ -44,7 +45,7 @@ pub record WellFormed (p : List ℕ) (c : Counts) : Type 0 where
   -- a child lies one deeper than its parent
   pub kid-depth : (e k : ℕ) → e < c .expressions → In k (kidsOf p c e) → depthOf p c k ≡ suc (depthOf p c e)
   -- a root's body lies at depth 1
-  pub body-depth : (r : ℕ) → r < c .roots → rootRow p c r .body < c .expressions → depthOf p c (rootRow p c r .body) ≡ 1
+  pub body-depth : (r : ℕ) → r < c .roots → depthOf p c (rootRow p c r .body) ≡ 1
 
 -- each expression passes a test over all
 node-passed : (p : List ℕ) (c : Counts) (number : ℕ) → passes (nodesOf p c number) ≡ true → (e : ℕ) → e < c .expressions → nodeFits p c number e ≡ true
@@ -102,7 +103,10 @@ well-formed p c e =
       lets = λ i l k. let-stated p c i (node-passed p c 15 (q .2) i l) k;
       deep = λ i l. not-deep p c i (node-passed p c 13 (q .3) i l);
       kid-depth = λ i k l m. depth-kid p c t k i (omega (arith, t .smaller i k l m)) l m;
-      body-depth = λ r l b. depth-body p c t (rootRow p c r .body) b (omega (arith, t .once (rootRow p c r .body) b, uses-split p c (rootRow p c r .body), body-named p c r l));
+      body-depth =
+          λ r l.
+          let b = root-inside p c (q .0) r l .body in
+          depth-body p c t (rootRow p c r .body) b (omega (arith, t .once (rootRow p c r .body) b, uses-split p c (rootRow p c r .body), body-named p c r l));
     }
   where
     -- the header passed, and so did what follows it
@@ -124,6 +128,13 @@ well-formed p c e =
 
     t : Trees p c
     t = grown p c (q .0) (q .1)
+
+-- past the header the answer is that of the rows and trees (5 and 6 are asked between the two)
+pub after-header : (p : List ℕ) (c : Counts) → headerOf p ≡ Pack c → formedOf p ≡ bodyOf p c
+unfolding formedOf
+after-header p c e =
+    let h = header-passed p (ap passes e) in
+    sym (follows passes (headerOf p) (bodyOf p (countsOf p)) (ap passes e) refl) ∙ ap (bodyOf p) (pack-same (sym (h .0) ∙ e))
 
 -- two answers that meet the contract of `formed` are equal
 pub formed-unique : (p : List ℕ) (a b : Reading) → a ≡ formedOf p → b ≡ formedOf p → a ≡ b

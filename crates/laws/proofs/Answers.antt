@@ -5,7 +5,6 @@
 -- Assumes nothing.
 use mathlib.Core.Path.{_≡_, refl, sym, ap, _∙_}
 use mathlib.Core.Bool.{Bool, true, false}
-use Rattle.laws.specs.Choice.{pick}
 use Rattle.laws.specs.Answers.{after}
 use Rattle.laws.proofs.Choice.{yes, no, by-test, fails}
 

@@ -13,13 +13,13 @@
 --     all-until   a test of each place, by the first place that fails
 -- Assumes nothing.
 use Prim.Native.Nat.{ℕ, zero, suc, _+_, _-_, _<_, _≤_}
-use mathlib.Core.Path.{_≡_, refl, sym, ap, subst, _∙_}
+use mathlib.Core.Path.{_≡_, refl, sym, ap, _∙_}
 use mathlib.Core.Bool.{Bool, true, false, _&&_}
 use native.Mathlib.Numerals.{add-one}
 use native.Mathlib.Omega.{arith}
-use native.Mathlib.Nat.{add-zero, zero-add, suc-add, add-suc, sub-zero}
-use lib.Dec.{eqb, leb, ltb}
-use borrow.Author.Tests.{eqb-true, le-leb, lt-leb, leb-true, leb-false}
+use native.Mathlib.Nat.{add-zero}
+use lib.Dec.{eqb, leb}
+use borrow.Author.Tests.{leb-true, leb-false}
 use Rattle.laws.specs.Choice.{pick}
 use Rattle.laws.specs.First.{first, walk, all, until}
 use Rattle.laws.proofs.Choice.{yes, no, by-test, by-eq, fails}

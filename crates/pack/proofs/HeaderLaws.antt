@@ -1,20 +1,19 @@
 -- What a header that was not refused says: the counts are those of the bytes, within their limits, and the length is exact.
 -- Assumes nothing.
-use Prim.Native.Nat.{ℕ, _≤_}
+use Prim.Native.Nat.{ℕ}
 use mathlib.Core.Path.{_≡_, refl, sym, ap, _∙_}
 use mathlib.Core.Bool.{Bool, true, false}
 use mathlib.Core.List.{List}
-use native.Mathlib.Omega.{arith}
 use lib.ListN.{length}
-use borrow.Author.Tests.{leb-true, eqb-true}
+use borrow.Author.Tests.{eqb-true}
 use Rattle.laws.specs.Choice.{pick}
 use Rattle.laws.proofs.Choice.{fails}
-use Rattle.pack.specs.Answer.{refuse, needs, passes}
+use Rattle.pack.specs.Answer.{needs, passes}
 use Rattle.pack.specs.Counts.{inLimits, sizeOf}
 use Rattle.pack.specs.Header.{countsOf, headerOf}
 use Rattle.pack.specs.declared.counts.Counts.{Counts}
 use Rattle.pack.specs.declared.answer.Reading.{Reading}
-use Rattle.pack.specs.declared.answer.Reading.the-variants.{Pack, Refused}
+use Rattle.pack.specs.declared.answer.Reading.the-variants.{Pack}
 
 pub record Headed (p : List ℕ) (c : Counts) : Type 0 where
   pub counts : c ≡ countsOf p

@@ -3,3 +3,4 @@ pub mod NameLaws
 pub mod ListLaws
 pub mod TableLaws
 pub mod Promises
+pub mod Inside

@@ -55,7 +55,7 @@ rule-passed p c e table i l h =
 -- ---- lists in range
 
 -- each item of a list in range is in range
-item-fits : (p : List ℕ) (c : Counts) (items : Items) (s : ℕ) → itemsFit p c items s ≡ true → (k : ℕ) → k < listLen p c s → itemFits p c items s k ≡ true
+pub item-fits : (p : List ℕ) (c : Counts) (items : Items) (s : ℕ) → itemsFit p c items s ≡ true → (k : ℕ) → k < listLen p c s → itemFits p c items s k ≡ true
 unfolding itemsFit
 item-fits p c items s e k l = all-each (itemFits p c items s) (listLen p c s) (and-both (listFits c s (wordsOf items (listLen p c s))) _ e .1) k l
 
