@@ -4,3 +4,4 @@ pub mod First
 pub mod Lists
 pub mod Bounded
 pub mod Answers
+pub mod Members

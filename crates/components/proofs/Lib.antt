@@ -1,0 +1,16 @@
+pub mod Below
+pub mod Indexes
+pub mod Parts
+pub mod Rooms
+pub mod Walks
+pub mod Steps
+pub mod Visits
+pub mod Classes
+pub mod Search
+pub mod Reached
+pub mod Discovery
+pub mod Tests
+pub mod Cases
+pub mod Answers
+pub mod Unfold
+pub mod Unique
