@@ -1,0 +1,5 @@
+pub mod Values
+pub mod Area
+pub mod Order
+pub mod Search
+pub mod Context
