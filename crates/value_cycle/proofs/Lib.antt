@@ -12,3 +12,4 @@ pub mod Outcomes
 pub mod Worked
 pub mod ReadBack
 pub mod Promises
+pub mod WellFormed
