@@ -2,6 +2,7 @@
 ghost use mathlib.Core.Path.{_≡_};
 ghost use mathlib.Core.Bool.{_&&_, _||_};
 ghost use Rattle.laws.specs.Choice.{pick};
+ghost use Rattle.laws.specs.Lists.{bit};
 
 // Whether both tests hold.
 pub fn both(a: bool, b: bool) -> bool
@@ -22,4 +23,11 @@ pub fn unless(ok: bool, number: u32, rest: u32) -> u32
     ensures { λ r. ⌜ r ≡ pick ok rest number ⌝ }
 {
     if ok { rest } else { number }
+}
+
+// A test as a number, 1 where it holds and else 0.
+pub fn flag(b: bool) -> u32
+    ensures { λ r. ⌜ r ≡ bit b ⌝ }
+{
+    if b { 1 } else { 0 }
 }
