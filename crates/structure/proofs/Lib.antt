@@ -1,0 +1,11 @@
+pub mod Arrays
+pub mod Pairs
+pub mod Flat
+pub mod Reading
+pub mod Chaining
+pub mod Reps
+pub mod Equal
+pub mod Keys
+pub mod Building
+pub mod TypeCodes
+pub mod Promises

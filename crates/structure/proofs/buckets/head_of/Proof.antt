@@ -1,0 +1,15 @@
+use mathlib.Core.Path.{sym, _∙_}
+use Rattle.laws.proofs.Bounded.{get-in}
+use borrow.Author.Needs.{needs}
+use native.Mathlib.Omega.{arith}
+use Rattle.structure.proofs.buckets.head_of.Statement.{statement}
+use Rattle.structure.proofs.buckets.head_of.Tie as tie
+
+mul-result : tie.Need-mul-result
+mul-result c = omega (arith, c .bucket-of .ensures .small)
+
+returns : tie.Need-returns
+returns c = rw (← c .before .bucket-of .ensures .same) (get-in _ _ _ (c .before .bucket-of .ensures .small))
+
+pub head-of-spec : {M : Type 1} → statement M
+head-of-spec = tie.close (tie.spec (λ c κs. search needs) (λ c. search needs) mul-result (λ c. search needs) returns)

@@ -1,0 +1,33 @@
+-- No row from j on passes.
+use mathlib.Core.Path.{_≡_, refl, sym, _∙_}
+use Rattle.structure.specs.Facts.{hasList}
+use Rattle.structure.specs.Buckets.{bucketOf}
+use Rattle.structure.proofs.Chaining.{Walk, walk-start, walk-next, walk-falls, walk-found, walk-none, list-sorted}
+use borrow.Author.Needs.{needs}
+use native.Mathlib.Omega.{arith}
+use Rattle.structure.proofs.facts.row_with_list.Statement.{statement}
+use Rattle.structure.proofs.facts.row_with_list.Tie as tie
+
+abbrev Inv-loop : tie.InvT-loop
+Inv-loop pack c same prints heads nexts i s h j₀ j = Walk (hasList pack c same prints s h) prints (bucketOf h) i j
+
+abbrev μ-loop : tie.MeasureT-loop
+μ-loop pack c same prints heads nexts i s h j₀ j = j
+
+loop-holds : tie.Need-loop-holds Inv-loop μ-loop
+loop-holds c = rw (c .head-of .ensures) (walk-start (c .before .before .pre) (list-sorted _ _ _ _ _ _))
+
+loop-again : tie.Need-loop-again Inv-loop μ-loop
+loop-again c = rw (c .entry-at .ensures) (walk-next (c .before .before .before .before .before .before .before .pre) (list-sorted _ _ _ _ _ _) (c .before .before .before .before .loop .inv) (omega arith) (sym (c .before .before .has-list .ensures) ∙ c .before .if1 .left))
+
+loop-less : tie.Need-loop-less Inv-loop μ-loop
+loop-less c = rw (c .entry-at .ensures) (walk-falls (c .before .before .before .before .before .before .before .pre) (list-sorted _ _ _ _ _ _) (c .before .before .before .before .loop .inv) (omega arith))
+
+returns : tie.Need-returns Inv-loop μ-loop
+returns c = walk-found (c .before .before .before .loop .inv) (omega arith) (sym (c .before .has-list .ensures) ∙ c .if1 .taken)
+
+returns-2 : tie.Need-returns-2 Inv-loop μ-loop
+returns-2 c = walk-none (c .before .loop .inv) (omega arith)
+
+pub row-with-list-spec : {M : Type 1} → statement M
+row-with-list-spec = tie.close (tie.spec Inv-loop μ-loop (λ c κs. search needs) loop-holds (λ c. search needs) (λ c κs. search needs) (λ c. search needs) returns (λ c. search needs) (λ c κs. search needs) loop-less loop-again returns-2)

@@ -1,0 +1,6 @@
+pub mod Structure
+pub mod Lists
+pub mod Table
+pub mod Buckets
+pub mod Facts
+pub mod Types

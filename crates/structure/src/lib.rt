@@ -1,0 +1,15 @@
+// The type table by structure: rows equal in structure have one number, the smallest of them, so that two types are equal exactly if their
+// codes are; and which rows hold a variable.
+mod buckets;
+mod facts;
+mod lists;
+mod numbering;
+mod rows;
+mod slots;
+mod table;
+mod types;
+
+pub use numbering::number_rows;
+pub use table::TypeTable;
+pub use types::holds_var;
+pub use types::type_code;

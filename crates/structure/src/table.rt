@@ -1,0 +1,41 @@
+// The type table by structure: the number of each row, and whether it holds a variable.
+ghost use mathlib.Core.Path.{_≡_};
+ghost use lib.ListN.{replicate};
+ghost use Rattle.laws.specs.Bounded.{get};
+ghost use Rattle.structure.specs.Structure.{rows};
+ghost use Rattle.structure.specs.Table.{Clear};
+
+pub struct TypeTable {
+    pub same: [u32; TypeTable::CAPACITY],
+    pub marks: [u32; TypeTable::CAPACITY],
+}
+
+impl TypeTable {
+    pub const CAPACITY: usize = 2048;
+
+    // While it is made, each list has a slot: two for a start, and one for no list.
+    pub const SLOTS: usize = 32769;
+
+    // And rows are searched in chains; a prime.
+    pub const BUCKETS: usize = 4093;
+
+    pub fn empty() -> Self
+        ensures { λ r. ⌜ Clear (r .same) × Clear (r .marks) ⌝ }
+    {
+        Self {
+            same: [0u32; Self::CAPACITY],
+            marks: [0u32; Self::CAPACITY],
+        }
+    }
+}
+
+// What an array of the table has for row k, 0 past its end.
+pub fn entry_at(xs: &[u32; TypeTable::CAPACITY], k: u32) -> u32
+    ensures { λ r. ⌜ r ≡ get rows (now (xs .entry)) k ⌝ }
+{
+    if (k as usize) < TypeTable::CAPACITY {
+        xs[k as usize]
+    } else {
+        0
+    }
+}
