@@ -1,0 +1,11 @@
+use Rattle.unify.specs.Unify.{anyPlan}
+use borrow.Author.Needs.{needs}
+use Rattle.unify.proofs.plan.any_plan.Statement.{statement}
+use Rattle.unify.proofs.plan.any_plan.Tie as tie
+
+returns : tie.Need-returns
+unfolding anyPlan
+returns c = cc
+
+pub any-plan-spec : {M : Type 1} → statement M
+any-plan-spec = tie.close (tie.spec (λ c κs. search needs) (λ c κs. search needs) (λ c κs. search needs) (λ c κs. search needs) (λ c κs. search needs) (λ c κs. search needs) (λ c κs. search needs) returns)

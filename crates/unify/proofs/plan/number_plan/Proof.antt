@@ -1,0 +1,11 @@
+use Rattle.unify.specs.Unify.{numberPlan}
+use borrow.Author.Needs.{needs}
+use Rattle.unify.proofs.plan.number_plan.Statement.{statement}
+use Rattle.unify.proofs.plan.number_plan.Tie as tie
+
+returns : tie.Need-returns
+unfolding numberPlan
+returns c = cc
+
+pub number-plan-spec : {M : Type 1} → statement M
+number-plan-spec = tie.close (tie.spec (λ c κs. search needs) (λ c κs. search needs) (λ c κs. search needs) (λ c κs. search needs) (λ c κs. search needs) (λ c κs. search needs) returns)
