@@ -35,11 +35,3 @@ limited c e =
       values = leb-true (c .values) 1024 (lists .0);
       words = leb-true (c .words) 8184 (lists .1);
     }
-
-pub few-rows : (c : Counts) → Limited c → (table : ℕ) → rowsIn c table < 65535
-few-rows c l zero = omega arith
-few-rows c l (suc zero) = omega arith
-few-rows c l (suc (suc zero)) = omega arith
-few-rows c l (suc (suc (suc zero))) = omega arith
-few-rows c l (suc (suc (suc (suc zero)))) = omega arith
-few-rows c l (suc (suc (suc (suc (suc table))))) = omega arith

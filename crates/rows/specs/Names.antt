@@ -2,12 +2,13 @@
 use Prim.Native.Nat.{ℕ, _+_, _*_, _-_, _<_}
 use mathlib.Core.Path.{_≡_}
 use mathlib.Core.List.{List}
-use mathlib.Core.Bool.{Bool, not}
-use lib.ListN.{length, getD}
+use mathlib.Core.Bool.{Bool, true, not}
 use lib.Dec.{eqb, ltb}
 use Rattle.laws.specs.First.{all}
 use Rattle.pack.specs.Lists.{listLen, listItem}
 use Rattle.pack.specs.declared.counts.Counts.{Counts}
+use Rattle.rows.specs.Limits.{names}
+use Rattle.rows.specs.Lists.{listFits}
 
 -- the name of pair k
 abbrev pub nameAt : List ℕ → Counts → ℕ → ℕ → ℕ
@@ -25,12 +26,7 @@ namesDiffer p c s = all (λ k. fresh (nameAt p c s) k (nameAt p c s k)) 0 (listL
 unfoldable pub itemsRise : List ℕ → Counts → ℕ → Bool
 itemsRise p c s = all (λ k. ltb (listItem p c s k) (listItem p c s (k + 1))) 0 (listLen p c s - 1)
 
--- marks of words: 65,536 of them, each below the stamp
-pub record Below (marks : List ℕ) (stamp : ℕ) : Type 0 where
-  pub long : length marks ≡ 65536
-  pub under : (x : ℕ) → getD marks x 0 < stamp
-
--- an answer, and marks that stay below a stamp
-pub record Marked (answer : Type 0) (marks : List ℕ) (stamp : ℕ) : Type 0 where
-  pub is : answer
-  pub after : Below marks stamp
+-- a list of pairs with names: 14 is asked of those only, since 11 comes first
+pub record Named (p : List ℕ) (c : Counts) (s : ℕ) : Type 0 where
+  pub inside : listFits c s (2 * listLen p c s) ≡ true
+  pub names-below : (k : ℕ) → k < listLen p c s → nameAt p c s k < names

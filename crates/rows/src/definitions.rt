@@ -1,16 +1,14 @@
 // The definition table: enums, records, runtime types and lists.
 ghost use mathlib.Core.Path.{_≡_};
-ghost use Prim.Native.Nat.{_+_};
-ghost use Rattle.rows.specs.Runs.{Nested};
-ghost use Rattle.rows.specs.Names.{Below, Marked};
+ghost use mathlib.Core.Bool.{true};
+ghost use Rattle.rows.specs.Peaks.{Peaks as PeaksOf};
 ghost use Rattle.rows.specs.Definitions.{definitionKind, definitionKnown, definitionInRange, definitionDistinct, definitionRule};
 use crate::limits::NAMES;
 use crate::limits::fault_of;
 use crate::lists::Items;
 use crate::lists::items_fit;
-use crate::names::Marks;
 use crate::names::names_differ;
-use crate::runs::Runs;
+use crate::peaks::Peaks;
 use laws::both;
 use pack::Counts;
 use pack::DefinitionRow;
@@ -39,55 +37,46 @@ fn definition_in_range(
     pack: &[u8],
     c: Counts,
     r: DefinitionRow,
-    fields: &[u32; Runs::CAPACITY],
-    slots: &[u32; Runs::CAPACITY],
+    peaks: &[u32; Peaks::CAPACITY],
 ) -> bool
-    requires { ⌜ Nested (now pack) c (now fields) (now slots) ⌝ }
+    requires { ⌜ PeaksOf (now pack) c (now peaks) ⌝ }
     ensures { λ q. ⌜ q ≡ definitionInRange (now (pack .entry)) c r ⌝ }
 {
     let kind = r.kind;
     let types = c.types;
     match kind {
-        0 => items_fit(pack, c, Items::Variants, r.list, fields, slots),
-        1 => items_fit(pack, c, Items::Pairs(NAMES, types), r.list, fields, slots),
+        0 => items_fit(pack, c, Items::Variants, r.list, peaks),
+        1 => items_fit(pack, c, Items::Pairs(NAMES, types), r.list, peaks),
         _ => true,
     }
 }
 
+// Asked of a row in range.
 fn definition_distinct(
     pack: &[u8],
     c: Counts,
     r: DefinitionRow,
-    marks: &mut [u32; Marks::CAPACITY],
-    stamp: u32,
+    peaks: &[u32; Peaks::CAPACITY],
 ) -> bool
-    requires { ⌜ Below (now marks) stamp ⌝ }
-    ensures { λ q. ⌜ Marked (q ≡ definitionDistinct (now (pack .entry)) c r) (now (marks .exit)) (stamp + 1) ⌝ }
+    requires { ⌜ PeaksOf (now pack) c (now peaks) ⌝ }
+    ensures { λ q. ⌜ (definitionInRange (now (pack .entry)) c r ≡ true → q ≡ definitionDistinct (now (pack .entry)) c r) ⌝ }
 {
     let kind = r.kind;
     match kind {
-        0 => names_differ(pack, c, r.list, marks, stamp),
-        1 => names_differ(pack, c, r.list, marks, stamp),
+        0 => names_differ(pack, c, r.list, peaks),
+        1 => names_differ(pack, c, r.list, peaks),
         _ => true,
     }
 }
 
 // The number of the first fault of definition row i, or 0.
-pub fn definition_rule(
-    pack: &[u8],
-    c: Counts,
-    i: u32,
-    marks: &mut [u32; Marks::CAPACITY],
-    stamp: u32,
-    fields: &[u32; Runs::CAPACITY],
-    slots: &[u32; Runs::CAPACITY],
-) -> u32
-    requires { ⌜ Below (now marks) stamp × Nested (now pack) c (now fields) (now slots) ⌝ }
-    ensures { λ r. ⌜ Marked (r ≡ definitionRule (now (pack .entry)) c i) (now (marks .exit)) (stamp + 1) ⌝ }
+pub fn definition_rule(pack: &[u8], c: Counts, i: u32, peaks: &[u32; Peaks::CAPACITY]) -> u32
+    requires { ⌜ PeaksOf (now pack) c (now peaks) ⌝ }
+    ensures { λ r. ⌜ r ≡ definitionRule (now (pack .entry)) c i ⌝ }
 {
     let row = definition_row(pack, c, i);
     let known = definition_known(row);
-    let ranged = definition_in_range(pack, c, row, fields, slots);
-    let distinct = definition_distinct(pack, c, row, marks, stamp);
+    let ranged = definition_in_range(pack, c, row, peaks);
+    let distinct = definition_distinct(pack, c, row, peaks);
     fault_of(known, ranged, distinct)
 }

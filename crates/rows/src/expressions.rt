@@ -1,6 +1,6 @@
 // The expression table: 9 kinds of nodes.
 ghost use mathlib.Core.Path.{_≡_};
-ghost use Rattle.rows.specs.Runs.{Nested};
+ghost use Rattle.rows.specs.Peaks.{Peaks as PeaksOf};
 ghost use Rattle.rows.specs.Expressions.{unused as unusedOf, expressionKnown, kindKnown, expressionInRange, expressionRule};
 use crate::limits::LITERALS;
 use crate::limits::NAMES;
@@ -10,7 +10,7 @@ use crate::limits::fault_of;
 use crate::limits::optional_below;
 use crate::lists::Items;
 use crate::lists::items_fit;
-use crate::runs::Runs;
+use crate::peaks::Peaks;
 use laws::both;
 use pack::Counts;
 use pack::ExpressionRow;
@@ -52,10 +52,9 @@ fn expression_in_range(
     c: Counts,
     e: u32,
     r: ExpressionRow,
-    fields: &[u32; Runs::CAPACITY],
-    slots: &[u32; Runs::CAPACITY],
+    peaks: &[u32; Peaks::CAPACITY],
 ) -> bool
-    requires { ⌜ Nested (now pack) c (now fields) (now slots) ⌝ }
+    requires { ⌜ PeaksOf (now pack) c (now peaks) ⌝ }
     ensures { λ q. ⌜ q ≡ expressionInRange (now (pack .entry)) c e r ⌝ }
 {
     let kind = r.kind;
@@ -63,18 +62,15 @@ fn expression_in_range(
         0 => true,
         1 => r.a < SLOTS,
         2 => both(
-            items_fit(pack, c, Items::Ids(e), r.a, fields, slots),
+            items_fit(pack, c, Items::Ids(e), r.a, peaks),
             optional_below(r.b, e),
         ),
         3 => both(both(r.a < SLOTS, r.b < e), optional_below(r.c, c.types)),
-        4 => both(
-            r.a < e,
-            items_fit(pack, c, Items::Arms(e), r.b, fields, slots),
-        ),
+        4 => both(r.a < e, items_fit(pack, c, Items::Arms(e), r.b, peaks)),
         5 => both(r.a < e, r.b < e),
         6 => both(
             r.a < c.definitions,
-            items_fit(pack, c, Items::Pairs(NAMES, e), r.b, fields, slots),
+            items_fit(pack, c, Items::Pairs(NAMES, e), r.b, peaks),
         ),
         7 => both(r.a < e, r.b < NAMES),
         8 => optional_below(r.a, e),
@@ -83,18 +79,12 @@ fn expression_in_range(
 }
 
 // The number of the first fault of expression row e, or 0.
-pub fn expression_rule(
-    pack: &[u8],
-    c: Counts,
-    e: u32,
-    fields: &[u32; Runs::CAPACITY],
-    slots: &[u32; Runs::CAPACITY],
-) -> u32
-    requires { ⌜ Nested (now pack) c (now fields) (now slots) ⌝ }
+pub fn expression_rule(pack: &[u8], c: Counts, e: u32, peaks: &[u32; Peaks::CAPACITY]) -> u32
+    requires { ⌜ PeaksOf (now pack) c (now peaks) ⌝ }
     ensures { λ r. ⌜ r ≡ expressionRule (now (pack .entry)) c e ⌝ }
 {
     let row = expression_row(pack, c, e);
     let known = expression_known(row);
-    let ranged = expression_in_range(pack, c, e, row, fields, slots);
+    let ranged = expression_in_range(pack, c, e, row, peaks);
     fault_of(known, ranged, true)
 }

@@ -1,15 +1,19 @@
 // The five tables in their order, row by row: the first fault, or the counts.
 ghost use mathlib.Core.Path.{_≡_};
 ghost use mathlib.Core.Bool.{true};
-ghost use Prim.Native.Nat.{_+_, _*_, _<_, _≤_};
+ghost use Prim.Native.Nat.{_≤_};
+ghost use lib.ListN.{length};
 ghost use Rattle.pack.specs.Counts.{inLimits};
-ghost use Rattle.rows.specs.Runs.{Nested};
-ghost use Rattle.rows.specs.Names.{Below, Marked};
+ghost use Rattle.rows.specs.Peaks.{Peaks as PeaksOf};
 ghost use Rattle.rows.specs.Tables.{rowsIn, rowRule, tableOf, rowsOf};
 use crate::definitions::definition_rule;
+use crate::earlier::Marks;
+use crate::earlier::Places;
+use crate::earlier::fill_earlier;
 use crate::expressions::expression_rule;
 use crate::limits::SLOTS;
-use crate::names::Marks;
+use crate::peaks::Peaks;
+use crate::peaks::fill_peaks;
 use crate::roots::root_rule;
 use crate::runs::Runs;
 use crate::runs::fill_runs;
@@ -35,46 +39,29 @@ fn rows_in(c: Counts, table: u32) -> u32
 }
 
 // The number of the first fault of row i of a table, or 0.
-fn row_rule(
-    pack: &[u8],
-    c: Counts,
-    table: u32,
-    i: u32,
-    marks: &mut [u32; Marks::CAPACITY],
-    stamp: u32,
-    fields: &[u32; Runs::CAPACITY],
-    slots: &[u32; Runs::CAPACITY],
-) -> u32
-    requires { ⌜ Below (now marks) stamp × Nested (now pack) c (now fields) (now slots) ⌝ }
-    ensures { λ r. ⌜ Marked (r ≡ rowRule (now (pack .entry)) c table i) (now (marks .exit)) (stamp + 1) ⌝ }
+fn row_rule(pack: &[u8], c: Counts, table: u32, i: u32, peaks: &[u32; Peaks::CAPACITY]) -> u32
+    requires { ⌜ PeaksOf (now pack) c (now peaks) ⌝ }
+    ensures { λ r. ⌜ r ≡ rowRule (now (pack .entry)) c table i ⌝ }
 {
     match table {
-        0 => type_rule(pack, c, i, marks, stamp, fields, slots),
-        1 => definition_rule(pack, c, i, marks, stamp, fields, slots),
-        2 => expression_rule(pack, c, i, fields, slots),
-        3 => root_rule(pack, c, i, fields, slots),
-        4 => value_rule(pack, c, i, fields, slots),
+        0 => type_rule(pack, c, i, peaks),
+        1 => definition_rule(pack, c, i, peaks),
+        2 => expression_rule(pack, c, i, peaks),
+        3 => root_rule(pack, c, i, peaks),
+        4 => value_rule(pack, c, i, peaks),
         _ => 0,
     }
 }
 
-// One table. Row i has the stamp 65,536 · table + i + 1, later than any stamp before it.
-fn table_rows(
-    pack: &[u8],
-    c: Counts,
-    table: u32,
-    marks: &mut [u32; Marks::CAPACITY],
-    fields: &[u32; Runs::CAPACITY],
-    slots: &[u32; Runs::CAPACITY],
-) -> Reading
-    requires { ⌜ (table < 5) × (rowsIn c table < 65535) × Below (now marks) (65536 * table + 1) × Nested (now pack) c (now fields) (now slots) ⌝ }
-    ensures { λ r. ⌜ Marked (r ≡ tableOf (now (pack .entry)) c table) (now (marks .exit)) (65536 * table + 65536) ⌝ }
+// One table.
+fn table_rows(pack: &[u8], c: Counts, table: u32, peaks: &[u32; Peaks::CAPACITY]) -> Reading
+    requires { ⌜ PeaksOf (now pack) c (now peaks) ⌝ }
+    ensures { λ r. ⌜ r ≡ tableOf (now (pack .entry)) c table ⌝ }
 {
     let n = rows_in(c, table);
     let mut i = 0;
     while i < n {
-        let stamp = 65536 * table + i + 1;
-        let number = row_rule(pack, c, table, i, marks, stamp, fields, slots);
+        let number = row_rule(pack, c, table, i, peaks);
         if number != 0 {
             return refused(number, i, table as u64);
         }
@@ -84,19 +71,13 @@ fn table_rows(
 }
 
 // All tables, the first that does not pass being the answer.
-fn all_tables(
-    pack: &[u8],
-    c: Counts,
-    marks: &mut [u32; Marks::CAPACITY],
-    fields: &[u32; Runs::CAPACITY],
-    slots: &[u32; Runs::CAPACITY],
-) -> Reading
-    requires { ⌜ (inLimits c ≡ true) × Below (now marks) 1 × Nested (now pack) c (now fields) (now slots) ⌝ }
+fn all_tables(pack: &[u8], c: Counts, peaks: &[u32; Peaks::CAPACITY]) -> Reading
+    requires { ⌜ PeaksOf (now pack) c (now peaks) ⌝ }
     ensures { λ r. ⌜ r ≡ rowsOf (now (pack .entry)) c ⌝ }
 {
     let mut table = 0;
     while table < TABLES {
-        let answer = table_rows(pack, c, table, marks, fields, slots);
+        let answer = table_rows(pack, c, table, peaks);
         match answer {
             Reading::Pack(_) => {
                 table += 1;
@@ -109,15 +90,34 @@ fn all_tables(
     Reading::Pack(c)
 }
 
+// Fills the tree that all lists are judged by.
+fn fill(pack: &[u8], c: Counts, cells: &mut [u32; Peaks::CAPACITY])
+    requires { ⌜ (c .words ≤ 8184) × (length (now cells) ≡ 98304) ⌝ }
+    ensures { λ r. ⌜ PeaksOf (now (pack .entry)) c (now (cells .exit)) ⌝ }
+{
+    let mut field_runs = Runs::empty();
+    let mut slot_runs = Runs::empty();
+    let mut marks = Marks::empty();
+    let mut earlier = Places::empty();
+    let types = c.types;
+    fill_runs(pack, c, types, &mut field_runs.ends);
+    fill_runs(pack, c, SLOTS, &mut slot_runs.ends);
+    fill_earlier(pack, c, &mut marks.cells, &mut earlier.cells);
+    fill_peaks(
+        pack,
+        c,
+        &field_runs.ends,
+        &slot_runs.ends,
+        &earlier.cells,
+        cells,
+    );
+}
+
 pub fn rows(pack: &[u8], c: Counts) -> Reading
     requires { ⌜ inLimits c ≡ true ⌝ }
     ensures { λ r. ⌜ r ≡ rowsOf (now (pack .entry)) c ⌝ }
 {
-    let mut marks = Marks::empty();
-    let mut field_runs = Runs::empty();
-    let mut slot_runs = Runs::empty();
-    let types = c.types;
-    fill_runs(pack, c, types, &mut field_runs.ends);
-    fill_runs(pack, c, SLOTS, &mut slot_runs.ends);
-    all_tables(pack, c, &mut marks.cells, &field_runs.ends, &slot_runs.ends)
+    let mut peaks = Peaks::empty();
+    fill(pack, c, &mut peaks.cells);
+    all_tables(pack, c, &peaks.cells)
 }

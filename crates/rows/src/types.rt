@@ -1,9 +1,7 @@
 // The type table: 11 kinds.
 ghost use mathlib.Core.Path.{_≡_};
-ghost use Prim.Native.Nat.{_+_};
-ghost use Rattle.laws.specs.Choice.{pick};
-ghost use Rattle.rows.specs.Runs.{Nested};
-ghost use Rattle.rows.specs.Names.{Below, Marked};
+ghost use mathlib.Core.Bool.{true};
+ghost use Rattle.rows.specs.Peaks.{Peaks as PeaksOf};
 ghost use Rattle.rows.specs.Types.{primitive, typeKnown, namedFits, typeInRange, typeDistinct, typeRule};
 use crate::limits::EXPLICITS;
 use crate::limits::NAMES;
@@ -11,9 +9,8 @@ use crate::limits::VARIABLES;
 use crate::limits::fault_of;
 use crate::lists::Items;
 use crate::lists::items_fit;
-use crate::names::Marks;
 use crate::names::names_differ;
-use crate::runs::Runs;
+use crate::peaks::Peaks;
 use laws::both;
 use laws::either;
 use pack::Counts;
@@ -54,28 +51,20 @@ fn named_fits(
     i: u32,
     a: u32,
     b: u32,
-    fields: &[u32; Runs::CAPACITY],
-    slots: &[u32; Runs::CAPACITY],
+    peaks: &[u32; Peaks::CAPACITY],
 ) -> bool
-    requires { ⌜ Nested (now pack) c (now fields) (now slots) ⌝ }
+    requires { ⌜ PeaksOf (now pack) c (now peaks) ⌝ }
     ensures { λ q. ⌜ q ≡ namedFits (now (pack .entry)) c i a b ⌝ }
 {
     let known = a < c.definitions;
-    let fit = items_fit(pack, c, Items::Ids(i), b, fields, slots);
+    let fit = items_fit(pack, c, Items::Ids(i), b, peaks);
     let d = definition_row(pack, c, a);
     let as_many = list_len(pack, c, b) == d.parameters;
     both(both(known, fit), as_many)
 }
 
-fn type_in_range(
-    pack: &[u8],
-    c: Counts,
-    i: u32,
-    r: TypeRow,
-    fields: &[u32; Runs::CAPACITY],
-    slots: &[u32; Runs::CAPACITY],
-) -> bool
-    requires { ⌜ Nested (now pack) c (now fields) (now slots) ⌝ }
+fn type_in_range(pack: &[u8], c: Counts, i: u32, r: TypeRow, peaks: &[u32; Peaks::CAPACITY]) -> bool
+    requires { ⌜ PeaksOf (now pack) c (now peaks) ⌝ }
     ensures { λ q. ⌜ q ≡ typeInRange (now (pack .entry)) c i r ⌝ }
 {
     let kind = r.kind;
@@ -84,57 +73,41 @@ fn type_in_range(
         1 => true,
         2 => true,
         3 => r.a < EXPLICITS,
-        4 => named_fits(pack, c, i, r.a, r.b, fields, slots),
-        5 => items_fit(pack, c, Items::Pairs(NAMES, i), r.b, fields, slots),
-        6 => both(
-            r.a < i,
-            items_fit(pack, c, Items::Ids(i), r.b, fields, slots),
-        ),
+        4 => named_fits(pack, c, i, r.a, r.b, peaks),
+        5 => items_fit(pack, c, Items::Pairs(NAMES, i), r.b, peaks),
+        6 => both(r.a < i, items_fit(pack, c, Items::Ids(i), r.b, peaks)),
         7 => r.a < VARIABLES,
         8 => r.a < VARIABLES,
         9 => r.a < VARIABLES,
         10 => both(
             r.a < VARIABLES,
-            items_fit(pack, c, Items::Pairs(NAMES, i), r.b, fields, slots),
+            items_fit(pack, c, Items::Pairs(NAMES, i), r.b, peaks),
         ),
         _ => true,
     }
 }
 
-fn type_distinct(
-    pack: &[u8],
-    c: Counts,
-    r: TypeRow,
-    marks: &mut [u32; Marks::CAPACITY],
-    stamp: u32,
-) -> bool
-    requires { ⌜ Below (now marks) stamp ⌝ }
-    ensures { λ q. ⌜ Marked (q ≡ typeDistinct (now (pack .entry)) c r) (now (marks .exit)) (stamp + 1) ⌝ }
+// Asked of a row in range.
+fn type_distinct(pack: &[u8], c: Counts, i: u32, r: TypeRow, peaks: &[u32; Peaks::CAPACITY]) -> bool
+    requires { ⌜ PeaksOf (now pack) c (now peaks) ⌝ }
+    ensures { λ q. ⌜ (typeInRange (now (pack .entry)) c i r ≡ true → q ≡ typeDistinct (now (pack .entry)) c r) ⌝ }
 {
     let kind = r.kind;
     match kind {
-        5 => names_differ(pack, c, r.b, marks, stamp),
-        10 => names_differ(pack, c, r.b, marks, stamp),
+        5 => names_differ(pack, c, r.b, peaks),
+        10 => names_differ(pack, c, r.b, peaks),
         _ => true,
     }
 }
 
 // The number of the first fault of type row i, or 0.
-pub fn type_rule(
-    pack: &[u8],
-    c: Counts,
-    i: u32,
-    marks: &mut [u32; Marks::CAPACITY],
-    stamp: u32,
-    fields: &[u32; Runs::CAPACITY],
-    slots: &[u32; Runs::CAPACITY],
-) -> u32
-    requires { ⌜ Below (now marks) stamp × Nested (now pack) c (now fields) (now slots) ⌝ }
-    ensures { λ r. ⌜ Marked (r ≡ typeRule (now (pack .entry)) c i) (now (marks .exit)) (stamp + 1) ⌝ }
+pub fn type_rule(pack: &[u8], c: Counts, i: u32, peaks: &[u32; Peaks::CAPACITY]) -> u32
+    requires { ⌜ PeaksOf (now pack) c (now peaks) ⌝ }
+    ensures { λ r. ⌜ r ≡ typeRule (now (pack .entry)) c i ⌝ }
 {
     let row = type_row(pack, i);
     let known = type_known(row);
-    let ranged = type_in_range(pack, c, i, row, fields, slots);
-    let distinct = type_distinct(pack, c, row, marks, stamp);
+    let ranged = type_in_range(pack, c, i, row, peaks);
+    let distinct = type_distinct(pack, c, i, row, peaks);
     fault_of(known, ranged, distinct)
 }

@@ -1,11 +1,10 @@
 use Rattle.laws.specs.Choice.{byKind}
 use Rattle.laws.proofs.Choice.{past-kinds}
 use Rattle.rows.specs.Definitions.{definitionDistinct}
-use Rattle.rows.proofs.NameLaws.{later}
+use Rattle.rows.proofs.RowLaws.{named-enum, named-record}
 use borrow.Author.Needs.{needs}
-use native.Mathlib.Omega.{arith}
 use Rattle.rows.proofs.definitions.definition_distinct.Statement.{statement}
 use Rattle.rows.proofs.definitions.definition_distinct.Tie as tie
 
 pub definition-distinct-spec : {M : Type 1} → statement M
-definition-distinct-spec = tie.close (tie.spec (λ c κs. search needs) (λ c κs. search needs) (λ c. unfold definitionDistinct byKind in record { is = rw (c .before .before .match .keys1) (c .names-differ .ensures .is); after = c .names-differ .ensures .after }) (λ c. unfold definitionDistinct byKind in record { is = rw (c .before .before .match .keys2) (c .names-differ2 .ensures .is); after = c .names-differ2 .ensures .after }) (λ c. unfold definitionDistinct in record { is = past-kinds _ _ _ _ (c .match .rest); after = later (c .before .before .pre) (omega arith) }))
+definition-distinct-spec = tie.close (tie.spec (λ c κs. search needs) (λ c κs. search needs) (λ c. λ t. unfold definitionDistinct byKind in rw (c .before .match .keys1) (c .names-differ .ensures (named-enum _ _ _ (c .before .match .keys1) t))) (λ c. λ t. unfold definitionDistinct byKind in rw (c .before .match .keys2) (c .names-differ2 .ensures (named-record _ _ _ (c .before .match .keys2) t))) (λ c. λ t. unfold definitionDistinct in past-kinds _ _ _ _ (c .match .rest)))

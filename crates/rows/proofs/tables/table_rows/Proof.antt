@@ -1,25 +1,20 @@
 use Rattle.laws.proofs.First.{RowsLeft, row-goes, row-stops, row-ends}
 use Rattle.pack.specs.Answer.{refuse}
 use Rattle.pack.specs.declared.answer.Reading.the-variants.{Pack}
-use Rattle.rows.specs.Names.{Below}
-use Rattle.rows.specs.Runs.{Nested}
 use Rattle.rows.specs.Tables.{rowsIn, rowRule, tableOf}
-use Rattle.rows.proofs.NameLaws.{later}
-use mathlib.Core.Path.{refl, ap, sym, _∙_}
-use Prim.Native.Nat.{ℕ, _+_, _*_, _-_, _≤_}
+use mathlib.Core.Path.{refl, ap, _∙_}
+use Prim.Native.Nat.{ℕ, _-_, _≤_}
 use borrow.Author.Needs.{needs}
 use native.Mathlib.Omega.{arith}
 use Rattle.rows.proofs.tables.table_rows.Statement.{statement}
 use Rattle.rows.proofs.tables.table_rows.Tie as tie
 
 abbrev Inv-loop : tie.InvT-loop
-Inv-loop pack c table marks₀ fields slots n i₀ marks i =
-    (i ≤ n)
-    × Below marks (65536 * table + i + 1)
-    × RowsLeft (rowRule pack c table) (λ k. refuse (rowRule pack c table k) k table) (Pack c) i (rowsIn c table) (tableOf pack c table)
+Inv-loop pack c table peaks n i₀ i =
+    (i ≤ n) × RowsLeft (rowRule pack c table) (λ k. refuse (rowRule pack c table k) k table) (Pack c) i (rowsIn c table) (tableOf pack c table)
 
 abbrev μ-loop : tie.MeasureT-loop
-μ-loop pack c table marks₀ fields slots n i₀ marks i = n - i
+μ-loop pack c table peaks n i₀ i = n - i
 
 pub table-rows-spec : {M : Type 1} → statement M
-table-rows-spec = tie.close (tie.spec Inv-loop μ-loop (λ c κs. search needs) (λ c. unfold tableOf in (omega arith, later (c .before .before .pre .2) (omega arith), record { left = record { says = refl } })) (λ c. search needs) (λ c. search needs) (λ c. search needs) (λ c κs. (c .before .before .loop .inv .1, c .before .before .before .before .before .pre .3)) (λ c κs. search needs) (λ c. record { is = c .refused .ensures ∙ ap (λ (x : ℕ). refuse x (c .before .before .before .before .before .loop .i) (c .before .before .before .before .before .before .before .before .args .table)) (c .before .before .row-rule .ensures .is) ∙ row-stops (c .before .before .before .before .before .loop .inv .2) (omega arith) (c .before .before .row-rule .ensures .is) (c .before .if1 .taken); after = later (c .before .before .row-rule .ensures .after) (omega arith) }) (λ c. search needs) (λ c. search needs) (λ c. (omega arith, later (c .before .row-rule .ensures .after) (omega arith), row-goes (c .before .before .before .before .loop .inv .2) (omega arith) (c .before .row-rule .ensures .is) (c .if1 .left))) (λ c. record { is = row-ends (c .before .loop .inv .2) (omega arith); after = later (c .before .loop .inv .1) (omega arith) }))
+table-rows-spec = tie.close (tie.spec Inv-loop μ-loop (λ c κs. search needs) (λ c. unfold tableOf in (omega arith, record { left = record { says = refl } })) (λ c κs. c .before .before .before .before .pre) (λ c κs. search needs) (λ c. c .refused .ensures ∙ ap (λ (x : ℕ). refuse x (c .before .before .before .before .loop .i) (c .before .before .before .before .before .before .before .args .table)) (c .before .before .row-rule .ensures) ∙ row-stops (c .before .before .before .before .loop .inv .1) (omega arith) (c .before .before .row-rule .ensures) (c .before .if1 .taken)) (λ c. search needs) (λ c. search needs) (λ c. (omega arith, row-goes (c .before .before .before .loop .inv .1) (omega arith) (c .before .row-rule .ensures) (c .if1 .left))) (λ c. row-ends (c .before .loop .inv .1) (omega arith)))

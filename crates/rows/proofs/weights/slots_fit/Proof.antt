@@ -9,8 +9,8 @@ use Rattle.rows.specs.Limits.{wild, slots}
 use Rattle.rows.specs.Lists.{slotsFit, idsFit}
 use borrow.Author.Needs.{needs}
 use native.Mathlib.Omega.{arith}
-use Rattle.rows.proofs.lists.slots_fit.Statement.{statement}
-use Rattle.rows.proofs.lists.slots_fit.Tie as tie
+use Rattle.rows.proofs.weights.slots_fit.Statement.{statement}
+use Rattle.rows.proofs.weights.slots_fit.Tie as tie
 
 none : (p : List ℕ) (c : Counts) (name x : ℕ) → x ≡ 0 → true ≡ slotsFit p c name x
 none p c name zero e = refl

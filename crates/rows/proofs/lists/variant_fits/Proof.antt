@@ -1,9 +1,0 @@
-use borrow.Author.Needs.{needs}
-use Rattle.rows.proofs.lists.variant_fits.Statement.{statement}
-use Rattle.rows.proofs.lists.variant_fits.Tie as tie
-
-returns : tie.Need-returns
-returns c = cc
-
-pub variant-fits-spec : {M : Type 1} → statement M
-variant-fits-spec = tie.close (tie.spec (λ c. search needs) (λ c κs. search needs) (λ c. search needs) (λ c. search needs) (λ c κs. search needs) (λ c κs. search needs) (λ c κs. search needs) returns)
