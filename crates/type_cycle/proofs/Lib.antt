@@ -1,0 +1,10 @@
+pub mod VisitLaws
+pub mod SkipLaws
+pub mod StepLaws
+pub mod LeadLaws
+pub mod UnresolvedLaws
+pub mod WalkLaws
+pub mod OrderLaws
+pub mod Ready
+pub mod Promises
+pub mod Worked

@@ -1,0 +1,206 @@
+// The search: from a type or a definition to all that it leads to, each met once.
+ghost use mathlib.Core.Path.{_≡_};
+ghost use Prim.Native.Nat.{_<_};
+ghost use mathlib.Core.List.{[], _∷_};
+ghost use lib.ListN.{length};
+ghost use Rattle.pack.specs.Named.{fieldTypesOf};
+ghost use Rattle.type_cycle.specs.Graph.{atName, rowAhead, itemTypes, listTypes, Within, RowInside};
+ghost use Rattle.type_cycle.specs.Search.{st, Can, MeetsVariable, Visited};
+use crate::marks::Marks;
+use crate::marks::push;
+use crate::skips::Listed;
+use crate::skips::Skips;
+use crate::skips::pass;
+use crate::skips::set_skip;
+use crate::skips::skip_at;
+use pack::Counts;
+use pack::TypeRow;
+use pack::definition_row;
+use pack::list_item;
+use pack::list_len;
+use pack::type_row;
+
+// A definition: its fields, once. It is listed when it is left. n are listed before; answers how many are afterwards.
+pub fn visit_name(
+    pack: &[u8],
+    c: Counts,
+    d: u32,
+    n: u32,
+    marks: &mut [u32; Marks::CAPACITY],
+    skips: &mut [u32; Skips::CAPACITY],
+    order: &mut [u32; Marks::CAPACITY],
+) -> u32
+    requires { ⌜ (d < c .definitions) × Can (now pack) c (now marks) ⌝ }
+    ensures { λ r. ⌜ Visited (now (pack .entry)) c (atName d ∷ []) (st (now (marks .entry)) (now (skips .entry)) (now (order .entry)) n) (st (now (marks .exit)) (now (skips .exit)) (now (order .exit)) r) ⌝ }
+{
+    let at = Marks::NAMES + (d as usize);
+    if marks[at] == 0 {
+        marks[at] = 1;
+        let m = visit_fields(pack, c, d, n, marks, skips, order);
+        push(order, m, d)
+    } else {
+        n
+    }
+}
+
+// The types of a definition's fields. Runtime and list definitions have none.
+pub fn visit_fields(
+    pack: &[u8],
+    c: Counts,
+    d: u32,
+    n: u32,
+    marks: &mut [u32; Marks::CAPACITY],
+    skips: &mut [u32; Skips::CAPACITY],
+    order: &mut [u32; Marks::CAPACITY],
+) -> u32
+    requires { ⌜ (d < c .definitions) × Can (now pack) c (now marks) ⌝ }
+    ensures { λ r. ⌜ Visited (now (pack .entry)) c (fieldTypesOf (now (pack .entry)) c d) (st (now (marks .entry)) (now (skips .entry)) (now (order .entry)) n) (st (now (marks .exit)) (now (skips .exit)) (now (order .exit)) r) ⌝ }
+{
+    let row = definition_row(pack, c, d);
+    let kind = row.kind;
+    match kind {
+        0 => visit_list(pack, c, Listed::Variants, row.list, n, marks, skips, order),
+        1 => visit_list(pack, c, Listed::Fields, row.list, n, marks, skips, order),
+        _ => n,
+    }
+}
+
+// What the items of the list at s name, in their order.
+fn visit_list(
+    pack: &[u8],
+    c: Counts,
+    items: Listed,
+    s: u32,
+    n: u32,
+    marks: &mut [u32; Marks::CAPACITY],
+    skips: &mut [u32; Skips::CAPACITY],
+    order: &mut [u32; Marks::CAPACITY],
+) -> u32
+    requires { ⌜ Within c (listTypes (now pack) c items s) × Can (now pack) c (now marks) ⌝ }
+    ensures { λ r. ⌜ Visited (now (pack .entry)) c (listTypes (now (pack .entry)) c items s) (st (now (marks .entry)) (now (skips .entry)) (now (order .entry)) n) (st (now (marks .exit)) (now (skips .exit)) (now (order .exit)) r) ⌝ }
+{
+    let count = list_len(pack, c, s);
+    let mut m = n;
+    let mut k = 0;
+    while k < count {
+        let skip = skip_at(items, s, k, skips);
+        if skip == 0 {
+            m = visit_item(pack, c, items, s, k, m, marks, skips, order);
+            set_skip(items, s, k, 1, skips);
+            k += 1;
+        } else {
+            k = pass(items, s, k, skip, count, skips);
+        }
+    }
+    m
+}
+
+// What item k names.
+fn visit_item(
+    pack: &[u8],
+    c: Counts,
+    items: Listed,
+    s: u32,
+    k: u32,
+    n: u32,
+    marks: &mut [u32; Marks::CAPACITY],
+    skips: &mut [u32; Skips::CAPACITY],
+    order: &mut [u32; Marks::CAPACITY],
+) -> u32
+    requires { ⌜ (k < 65536) × Within c (itemTypes (now pack) c items s k) × Can (now pack) c (now marks) ⌝ }
+    ensures { λ r. ⌜ Visited (now (pack .entry)) c (itemTypes (now (pack .entry)) c items s k) (st (now (marks .entry)) (now (skips .entry)) (now (order .entry)) n) (st (now (marks .exit)) (now (skips .exit)) (now (order .exit)) r) ⌝ }
+{
+    match items {
+        Listed::Types => visit(pack, c, list_item(pack, c, s, k), n, marks, skips, order),
+        Listed::Fields => {
+            visit(
+                pack,
+                c,
+                list_item(pack, c, s, 2 * k + 1),
+                n,
+                marks,
+                skips,
+                order,
+            )
+        }
+        Listed::Variants => {
+            let types = list_item(pack, c, s, 2 * k + 1);
+            visit_list(pack, c, Listed::Types, types, n, marks, skips, order)
+        }
+    }
+}
+
+// A type, once.
+fn visit(
+    pack: &[u8],
+    c: Counts,
+    t: u32,
+    n: u32,
+    marks: &mut [u32; Marks::CAPACITY],
+    skips: &mut [u32; Skips::CAPACITY],
+    order: &mut [u32; Marks::CAPACITY],
+) -> u32
+    requires { ⌜ (t < c .types) × Can (now pack) c (now marks) ⌝ }
+    ensures { λ r. ⌜ Visited (now (pack .entry)) c (t ∷ []) (st (now (marks .entry)) (now (skips .entry)) (now (order .entry)) n) (st (now (marks .exit)) (now (skips .exit)) (now (order .exit)) r) ⌝ }
+{
+    let at = t as usize;
+    if marks[at] == 0 {
+        marks[at] = 1;
+        let row = type_row(pack, t);
+        visit_row(pack, c, row, n, marks, skips, order)
+    } else {
+        n
+    }
+}
+
+// What a type's row leads to: a named type to its definition, a record to its parts, a variable to the mark that says so.
+fn visit_row(
+    pack: &[u8],
+    c: Counts,
+    row: TypeRow,
+    n: u32,
+    marks: &mut [u32; Marks::CAPACITY],
+    skips: &mut [u32; Skips::CAPACITY],
+    order: &mut [u32; Marks::CAPACITY],
+) -> u32
+    requires { ⌜ RowInside (now pack) c row × Can (now pack) c (now marks) ⌝ }
+    ensures { λ r. ⌜ Visited (now (pack .entry)) c (rowAhead (now (pack .entry)) c row) (st (now (marks .entry)) (now (skips .entry)) (now (order .entry)) n) (st (now (marks .exit)) (now (skips .exit)) (now (order .exit)) r) ⌝ }
+{
+    let kind = row.kind;
+    match kind {
+        0 => n,
+        1 => n,
+        2 => n,
+        3 => n,
+        4 => visit_name(pack, c, row.a, n, marks, skips, order),
+        5 => visit_list(pack, c, Listed::Fields, row.b, n, marks, skips, order),
+        6 => n,
+        7 => {
+            visit_variable(marks);
+            n
+        }
+        8 => {
+            visit_variable(marks);
+            n
+        }
+        9 => {
+            visit_variable(marks);
+            n
+        }
+        10 => {
+            visit_variable(marks);
+            n
+        }
+        _ => n,
+    }
+}
+
+// An unresolved variable leads no further.
+fn visit_variable(marks: &mut [u32; Marks::CAPACITY])
+    requires { ⌜ length (now marks) ≡ 2561 ⌝ }
+    ensures { λ r. ⌜ MeetsVariable (now (marks .entry)) (now (marks .exit)) ⌝ }
+{
+    if marks[Marks::VARIABLE] == 0 {
+        marks[Marks::VARIABLE] = 1;
+    }
+}
