@@ -33,6 +33,11 @@ pub(crate) fn differs(text: &[u8], at: usize, wanted: Answer, came: Answer) {
     say(b"\n");
 }
 
+pub(crate) fn area_differs(text: &[u8], at: usize) {
+    say_line(text, at);
+    say(b": the result area differs\n");
+}
+
 pub(crate) fn not_understood(text: &[u8], at: usize) {
     say_line(text, at);
     say(b": not understood\n");

@@ -46,7 +46,7 @@ fn add(row: &mut [u8], step: &[u8], len: usize) {
 }
 
 // Writes the first bytes of a row.
-fn put_row(row: &[u8], len: usize, pack: &mut [u8], size: usize) -> usize {
+pub(crate) fn put_row(row: &[u8], len: usize, pack: &mut [u8], size: usize) -> usize {
     let mut n = size;
     let mut i = 0;
     while i < row.len() {

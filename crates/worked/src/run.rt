@@ -2,34 +2,38 @@
 ghost use Prim.Native.Nat.{_≤_};
 ghost use lib.ListN.{length};
 use crate::answers::Answer;
-use crate::answers::is_same;
-use crate::answers::numbers_of;
+use crate::asks::AREA;
+use crate::asks::hold_formed;
+use crate::asks::hold_order;
 use crate::build::Grown;
 use crate::build::put_word;
-use crate::report::differs;
 use crate::report::group_sums;
 use crate::report::not_understood;
 use crate::report::nothing_asked;
 use crate::report::sums;
 use crate::state::DETAIL;
+use crate::state::FORMED;
 use crate::state::NAME;
 use crate::state::NUMBER;
+use crate::state::ORDER;
 use crate::state::PLACE;
 use crate::state::Run;
 use crate::state::WORD;
+use crate::state::asking;
 use crate::state::begun;
 use crate::state::named;
+use crate::state::one_asked;
 use crate::state::one_differs;
+use crate::state::with_area;
+use crate::state::with_listed;
 use crate::state::with_next;
 use crate::state::with_size;
 use crate::words::Word;
 use crate::words::decimal;
 use crate::words::is_number;
 use crate::words::meaning;
-use crate::words::one_more;
 use crate::words::word_end;
 use crate::words::word_start;
-use formed::formed;
 
 // A byte more than the longest pack that a case may have, which is a byte longer than the longest that can be read.
 const ROOM: usize = 65538;
@@ -54,6 +58,8 @@ fn new_case(text: &[u8], at: usize, run: Run) -> Run {
     let mut r = end_case(text, at, run);
     r.size = 0;
     r.asked = false;
+    r.in_area = false;
+    r.listed = 0;
     r
 }
 
@@ -85,7 +91,7 @@ fn end_text(text: &[u8], run: Run) {
 }
 
 // A word that has to be bytes of the pack.
-fn bytes(text: &[u8], at: usize, word: &[u8], pack: &mut [u8], run: Run) -> Run {
+fn pack_bytes(text: &[u8], at: usize, word: &[u8], pack: &mut [u8], run: Run) -> Run {
     let grown = put_word(word, pack, run.size);
     match grown {
         Grown::To(size) => with_size(run, size),
@@ -93,19 +99,52 @@ fn bytes(text: &[u8], at: usize, word: &[u8], pack: &mut [u8], run: Run) -> Run 
     }
 }
 
+// A word that has to be bytes of the result area.
+fn area_bytes(text: &[u8], at: usize, word: &[u8], listing: &mut [u8], run: Run) -> Run {
+    let grown = put_word(word, listing, run.listed);
+    match grown {
+        Grown::To(listed) => with_listed(run, listed),
+        Grown::Nothing => fault(text, at, run),
+    }
+}
+
+fn bytes(
+    text: &[u8],
+    at: usize,
+    word: &[u8],
+    pack: &mut [u8],
+    listing: &mut [u8],
+    run: Run,
+) -> Run {
+    if run.in_area {
+        area_bytes(text, at, word, listing, run)
+    } else {
+        pack_bytes(text, at, word, pack, run)
+    }
+}
+
 // A word that no other asked for.
-fn plain_word(text: &[u8], at: usize, word: &[u8], pack: &mut [u8], run: Run) -> Run {
+fn plain_word(
+    text: &[u8],
+    at: usize,
+    word: &[u8],
+    pack: &mut [u8],
+    listing: &mut [u8],
+    run: Run,
+) -> Run {
     let says = meaning(word);
     match says {
         Word::Group => with_next(end_group(text, at, run), NAME),
         Word::Case => new_case(text, at, run),
-        Word::Formed => with_next(run, NUMBER),
-        Word::Other => bytes(text, at, word, pack, run),
+        Word::Area => with_area(run),
+        Word::Formed => asking(run, FORMED),
+        Word::Order => asking(run, ORDER),
+        Word::Other => bytes(text, at, word, pack, listing, run),
     }
 }
 
 // One of the three numbers that are wanted.
-fn wanted(text: &[u8], at: usize, word: &[u8], pack: &[u8], run: Run) -> Run {
+fn wanted(text: &[u8], at: usize, word: &[u8], pack: &[u8], listing: &[u8], run: Run) -> Run {
     let n = decimal(word);
     let mut r = run;
     if is_number(word, 10) {
@@ -119,55 +158,52 @@ fn wanted(text: &[u8], at: usize, word: &[u8], pack: &[u8], run: Run) -> Run {
             r.next = DETAIL;
             return r;
         }
-        return ask(text, at, pack, n, run);
+        return ask(text, at, pack, listing, n, run);
     }
     fault(text, at, run)
 }
 
-// Holds the answer to what is wanted.
-fn ask(text: &[u8], at: usize, pack: &[u8], detail: u64, run: Run) -> Run {
+// What is asked is answered, if pack and area had room for all their bytes.
+fn ask(text: &[u8], at: usize, pack: &[u8], listing: &[u8], detail: u64, run: Run) -> Run {
     let size = run.size;
     if size >= pack.len() {
         return fault(text, at, run);
     }
-    let came = numbers_of(formed(&pack[0..size]));
+    if run.listed >= listing.len() {
+        return fault(text, at, run);
+    }
     let wanted = Answer {
         number: run.number,
         place: run.place,
         detail: detail,
     };
-    let mut r = run;
-    r.asked = true;
-    r.next = WORD;
-    r.cases = one_more(run.cases);
-    r.all_cases = one_more(run.all_cases);
-    if is_same(came, wanted) {
-        return r;
+    if run.asks == ORDER {
+        hold_order(text, at, &pack[0..size], listing, wanted, one_asked(run))
+    } else {
+        hold_formed(text, at, &pack[0..size], wanted, one_asked(run))
     }
-    differs(text, at, wanted, came);
-    one_differs(r)
 }
 
 // The word from `at` to `end`.
-fn take(text: &[u8], at: usize, end: usize, pack: &mut [u8], run: Run) -> Run
+fn take(text: &[u8], at: usize, end: usize, pack: &mut [u8], listing: &mut [u8], run: Run) -> Run
     requires { ⌜ (at ≤ end) × (end ≤ length (now text)) ⌝ }
 {
     let word = &text[at..end];
     let next = run.next;
     match next {
-        WORD => plain_word(text, at, word, pack, run),
+        WORD => plain_word(text, at, word, pack, listing, run),
         NAME => named(at, end, run),
-        _ => wanted(text, at, word, pack, run),
+        _ => wanted(text, at, word, pack, listing, run),
     }
 }
 
-// The words of the text one after the other, with room for a pack.
-fn run_in(text: &[u8], pack: &mut [u8]) {
+// The words of the text one after the other, with room for a pack and for what the result area begins with.
+fn run_in(text: &[u8], pack: &mut [u8], listing: &mut [u8]) {
     let mut run = begun();
     let mut at = word_start(text, 0);
     while at < text.len() {
         let end = word_end(text, at);
-        run = take(text, at, end, pack, run);
+        run = take(text, at, end, pack, listing, run);
         at = word_start(text, end);
     }
     end_text(text, run);
@@ -175,5 +211,6 @@ fn run_in(text: &[u8], pack: &mut [u8]) {
 
 pub(crate) fn run_all(text: &[u8]) {
     let mut pack = [0u8; ROOM];
-    run_in(text, &mut pack);
+    let mut listing = [0u8; AREA];
+    run_in(text, &mut pack, &mut listing);
 }

@@ -12,6 +12,11 @@ pub const PLACE: u32 = 3;
 
 pub const DETAIL: u32 = 4;
 
+// What was asked of the pack.
+pub const FORMED: u32 = 0;
+
+pub const ORDER: u32 = 1;
+
 pub struct Run {
     pub next: u32,
     // Where the group's name stands in the text.
@@ -25,7 +30,11 @@ pub struct Run {
     // How many bytes the case's pack has so far, and whether anything was asked of it.
     pub size: usize,
     pub asked: bool,
-    // What is wanted, as far as it was read.
+    // Whether the bytes are now the result area's, and how many of them there are so far.
+    pub in_area: bool,
+    pub listed: usize,
+    // What is asked and wanted, as far as it was read.
+    pub asks: u32,
     pub number: u64,
     pub place: u64,
 }
@@ -41,6 +50,9 @@ pub(crate) fn begun() -> Run {
         all_differ: 0,
         size: 0,
         asked: true,
+        in_area: false,
+        listed: 0,
+        asks: FORMED,
         number: 0,
         place: 0,
     }
@@ -55,6 +67,37 @@ pub(crate) fn with_next(run: Run, next: u32) -> Run {
 pub(crate) fn with_size(run: Run, size: usize) -> Run {
     let mut r = run;
     r.size = size;
+    r
+}
+
+// The bytes from here on are the result area's.
+pub(crate) fn with_area(run: Run) -> Run {
+    let mut r = run;
+    r.in_area = true;
+    r
+}
+
+pub(crate) fn with_listed(run: Run, listed: usize) -> Run {
+    let mut r = run;
+    r.listed = listed;
+    r
+}
+
+// Three numbers come, which are wanted of what is asked.
+pub(crate) fn asking(run: Run, asks: u32) -> Run {
+    let mut r = run;
+    r.asks = asks;
+    r.next = NUMBER;
+    r
+}
+
+// A case more of which something was asked.
+pub(crate) fn one_asked(run: Run) -> Run {
+    let mut r = run;
+    r.asked = true;
+    r.next = WORD;
+    r.cases = one_more(run.cases);
+    r.all_cases = one_more(run.all_cases);
     r
 }
 

@@ -7,7 +7,9 @@ use check::same;
 pub enum Word {
     Group,
     Case,
+    Area,
     Formed,
+    Order,
     Other,
 }
 
@@ -142,8 +144,14 @@ pub(crate) fn meaning(word: &[u8]) -> Word {
     if same(word, b"case") {
         return Word::Case;
     }
+    if same(word, b"area") {
+        return Word::Area;
+    }
     if same(word, b"formed") {
         return Word::Formed;
+    }
+    if same(word, b"order") {
+        return Word::Order;
     }
     Word::Other
 }
