@@ -1,4 +1,5 @@
 pub mod NoteLaws
+pub mod HopLaws
 pub mod TreeLaws
 pub mod StepLaws
 pub mod Ready

@@ -62,7 +62,7 @@ module _ (p : List ℕ) (c : Counts) where
         long-uses = long-all (bodiesOf p c) 2 (notes uses places) long .uses;
         long-places = long-all (bodiesOf p c) 2 (notes uses places) long .places;
         counted = λ e h. omega (arith, uses-are (bodiesOf p c) 2 (notes uses places) long e h (omega (arith, clear uses (z .no-uses) e h)), clear uses (z .no-uses) e h, from-none p c e);
-        placed = λ t e h m. place-new (bodiesOf p c) 2 (notes uses places) long e (omega arith) (omega (arith, from-none p c e)) ∙ at-root t e h (omega (arith, from-none p c e));
+        placed = λ t e h m. place-new (bodiesOf p c) 2 (notes uses places) long e (omega arith) (omega (arith, clear uses (z .no-uses) e (omega arith))) (omega (arith, from-none p c e)) ∙ at-root t e h (omega (arith, from-none p c e));
       })
     where
       long : Long (notes uses places)
@@ -96,11 +96,11 @@ module _ (p : List ℕ) (c : Counts) where
             (λ zs. place-kept (statementsOf p c i) (2 * below place + 1) s e zs ∙ n .placed t e h (omega (arith, next e)))
             (λ zs.
             let k = kid t e h (omega arith) in
-            place-new (statementsOf p c i) (2 * below place + 1) s long e (omega (arith, n .few)) (omega arith)
+            place-new (statementsOf p c i) (2 * below place + 1) s long e (omega (arith, n .few)) (omega (arith, n .counted e (omega (arith, n .few)), once t e h)) (omega arith)
             ∙ omega (arith, k .0, k .1, once t e h)))
             (λ zo.
             let k = kid t e h (omega arith) in
-            place-new (operandsOf p c i) (2 * below place) mid long-mid e (omega (arith, n .few)) (omega arith)
+            place-new (operandsOf p c i) (2 * below place) mid long-mid e (omega (arith, n .few)) (unused t e h (omega arith)) (omega arith)
             ∙ omega (arith, k .0, k .1, once t e h));
       })
     where
@@ -111,8 +111,16 @@ module _ (p : List ℕ) (c : Counts) where
       next e = from-step p c i e inside ∙ ap (λ (j : ℕ). count e (statementsOf p c i) + count e (operandsOf p c i) + usesFrom p c j e) (sym (add-one i) ∙ w)
 
       -- named by this row: by no other, so this row's place decides
-      once : Trees p c → (e : ℕ) → e < c .expressions → count e (statementsOf p c i) + count e (operandsOf p c i) ≤ 1
-      once t e h = omega (arith, t .once e h, uses-split p c e, at-row (kidsOf p c) e i (c .expressions) inside, count-append e (statementsOf p c i) (operandsOf p c i))
+      once : Trees p c → (e : ℕ) → e < c .expressions → count e (statementsOf p c i) + count e (operandsOf p c i) + usesFrom p c k e ≤ 1
+      once t e h =
+          omega (
+            arith,
+            t .once e h,
+            uses-split p c e,
+            at-row (kidsOf p c) e i (c .expressions) inside,
+            count-append e (statementsOf p c i) (operandsOf p c i),
+            ap (λ (j : ℕ). usesFrom p c j e) (sym (add-one i) ∙ w),
+          )
 
       here : Trees p c → place ≡ placeOf p c i
       here t = at ∙ n .placed t i inside (omega (arith, named-later p c t i inside, ap (λ (j : ℕ). usesFrom p c j i) (sym (add-one i) ∙ w)))
@@ -131,6 +139,17 @@ module _ (p : List ℕ) (c : Counts) where
 
       long-mid : Long mid
       long-mid = long-all (statementsOf p c i) (2 * below place + 1) s long
+
+      -- named as an operand: not noted before
+      unused : Trees p c → (e : ℕ) → e < c .expressions → 1 ≤ count e (operandsOf p c i) → get nodes (mid .uses) e < 2
+      unused t e h m =
+          let low : e < nodes = omega (arith, n .few) in
+          omega (
+            arith,
+            uses-are (statementsOf p c i) (2 * below place + 1) s long e low (omega (arith, n .counted e low)),
+            n .counted e low,
+            once t e h,
+          )
 
 -- all rows walked
 pub walked : {p : List ℕ} {c : Counts} {k : ℕ} {s : Notes} → k ≤ 0 → Noted p c k s → Noted p c 0 s

@@ -1,4 +1,5 @@
 pub mod Nodes
 pub mod Formed
 pub mod Notes
+pub mod Hops
 pub mod Trees

@@ -1,8 +1,10 @@
--- What the walk over all rows notes of each expression: how often it was named, counted up to 2, and where it was named last.
+-- What the walk over all rows notes of each expression: how often it was named, counted up to 2, and where it was named, if it was named once.
 -- A place is twice a depth (counted up to 65), and one more for a statement of a block.
 use Prim.Native.Nat.{ℕ, zero, suc, _+_, _*_, _/_, min}
 use mathlib.Core.List.{List, [], _∷_}
+use lib.Dec.{ltb}
 use Rattle.laws.specs.Bounded.{get, put}
+use Rattle.laws.specs.Choice.{pick}
 use Rattle.pack.specs.Lists.{listItem}
 use Rattle.pack.specs.Named.{optional, armKids, rowStatements, rowOperands}
 use Rattle.pack.specs.declared.counts.Counts.{Counts}
@@ -21,10 +23,12 @@ pub record Notes : Type 0 where
 abbrev pub notes : List ℕ → List ℕ → Notes
 notes uses places = record { uses = uses; places = places }
 
--- one naming of k, at a place
+-- one naming of k, at a place; what was named twice is noted no more
 unfoldable pub noteOne : ℕ → ℕ → Notes → Notes
 noteOne k place s =
-    notes (put nodes (s .uses) k (min 2 (get nodes (s .uses) k + 1))) (put nodes (s .places) k place)
+    pick (ltb (get nodes (s .uses) k) 2)
+    (notes (put nodes (s .uses) k (get nodes (s .uses) k + 1)) (put nodes (s .places) k place))
+    s
 
 -- namings one after the other, all at one place
 unfoldable pub noteAll : List ℕ → ℕ → Notes → Notes

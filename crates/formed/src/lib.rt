@@ -1,4 +1,5 @@
 // What makes a pack well-formed: its header, its rows, and that its expressions are trees under its roots.
+mod hops;
 mod notes;
 mod trees;
 mod whole;

@@ -1,11 +1,16 @@
-// Notes on each expression: how often it was named, up to 2, and the place where it was named last.
+// Notes on each expression: how often it was named, up to 2, and the place where it was named, if it was named once.
 ghost use mathlib.Core.Path.{_≡_};
-ghost use Prim.Native.Nat.{_+_, _<_, min};
-ghost use lib.ListN.{length, replicate};
+ghost use Prim.Native.Nat.{_<_};
+ghost use lib.ListN.{replicate};
 ghost use Rattle.laws.specs.Lists.{gather};
 ghost use Rattle.pack.specs.Lists.{listLen};
 ghost use Rattle.pack.specs.Named.{optional};
 ghost use Rattle.formed.specs.Notes.{notes, noteOne, noteAll, kidsAt};
+ghost use Rattle.formed.specs.Hops.{Hops as HopsOf, Passed, Noting};
+use crate::hops::Hops;
+use crate::hops::item_start;
+use crate::hops::reach;
+use crate::hops::set_hop;
 use pack::Counts;
 use pack::list_item;
 use pack::list_len;
@@ -49,16 +54,11 @@ pub fn note(
     let k = kid as usize;
     if k < Notes::CAPACITY {
         let n = uses[k];
-        uses[k] = more(n);
-        places[k] = place;
+        if n < 2 {
+            uses[k] = n + 1;
+            places[k] = place;
+        }
     }
-}
-
-// One use more, counted up to 2.
-fn more(n: u32) -> u32
-    ensures { λ r. ⌜ r ≡ min 2 (n + 1) ⌝ }
-{
-    if n < 2 { n + 1 } else { 2 }
 }
 
 // What is stored as a child+1, or 0 for none.
@@ -103,6 +103,32 @@ fn note_item(
     }
 }
 
+// Passes some items of the list at s, from item k on: a run of items that are full, or one item that it notes.
+fn note_some(
+    pack: &[u8],
+    c: Counts,
+    kids: Kids,
+    s: u32,
+    k: u32,
+    place: u32,
+    uses: &mut [u32; Notes::CAPACITY],
+    places: &mut [u32; Notes::CAPACITY],
+    hops: &mut [u32; Hops::CAPACITY],
+) -> u32
+    requires { ⌜ (k < 65536) × HopsOf (now pack) c (now uses) (now hops) ⌝ }
+    ensures { λ r. ⌜ Passed (now (pack .entry)) c kids s k place (notes (now (uses .entry)) (now (places .entry))) (notes (now (uses .exit)) (now (places .exit))) (now (hops .exit)) r ⌝ }
+{
+    let j = item_start(kids, (s as usize) + 1, k);
+    let run = reach(pack, c, kids, j, uses, hops);
+    if run == 0 {
+        note_item(pack, c, kids, s, k, place, uses, places);
+        1
+    } else {
+        set_hop(pack, c, kids, j, run, uses, hops);
+        run
+    }
+}
+
 // What the items of the list at s name, in their order.
 pub fn note_list(
     pack: &[u8],
@@ -112,13 +138,15 @@ pub fn note_list(
     place: u32,
     uses: &mut [u32; Notes::CAPACITY],
     places: &mut [u32; Notes::CAPACITY],
+    hops: &mut [u32; Hops::CAPACITY],
 )
-    ensures { λ r. ⌜ notes (now (uses .exit)) (now (places .exit)) ≡ noteAll (gather (kidsAt (now (pack .entry)) c kids s) 0 (listLen (now (pack .entry)) c s)) place (notes (now (uses .entry)) (now (places .entry))) ⌝ }
+    requires { ⌜ HopsOf (now pack) c (now uses) (now hops) ⌝ }
+    ensures { λ r. ⌜ Noting (notes (now (uses .exit)) (now (places .exit))) (noteAll (gather (kidsAt (now (pack .entry)) c kids s) 0 (listLen (now (pack .entry)) c s)) place (notes (now (uses .entry)) (now (places .entry)))) (now (pack .entry)) c (now (hops .exit)) ⌝ }
 {
     let n = list_len(pack, c, s);
     let mut k = 0;
     while k < n {
-        note_item(pack, c, kids, s, k, place, uses, places);
-        k += 1;
+        let passed = note_some(pack, c, kids, s, k, place, uses, places, hops);
+        k += passed;
     }
 }

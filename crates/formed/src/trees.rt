@@ -1,10 +1,13 @@
 // The walk over all rows: roots first, then expressions from the last down, so that a node's place is known before its children's.
 ghost use mathlib.Core.Path.{_≡_};
 ghost use Prim.Native.Nat.{_+_, _*_, _≤_, _<_};
+ghost use lib.ListN.{replicate};
 ghost use Rattle.pack.specs.Named.{rowStatements, rowOperands};
 ghost use Rattle.formed.specs.Nodes.{bodiesOf};
 ghost use Rattle.formed.specs.Notes.{notes, noteAll, noteRow, below};
+ghost use Rattle.formed.specs.Hops.{Hops as HopsOf, Noting};
 ghost use Rattle.formed.specs.Trees.{Clean, Noted};
+use crate::hops::Hops;
 use crate::notes::Kids;
 use crate::notes::Notes;
 use crate::notes::note;
@@ -31,11 +34,13 @@ fn note_statements(
     place: u32,
     uses: &mut [u32; Notes::CAPACITY],
     places: &mut [u32; Notes::CAPACITY],
+    hops: &mut [u32; Hops::CAPACITY],
 )
-    ensures { λ r. ⌜ notes (now (uses .exit)) (now (places .exit)) ≡ noteAll (rowStatements (now (pack .entry)) c row) place (notes (now (uses .entry)) (now (places .entry))) ⌝ }
+    requires { ⌜ HopsOf (now pack) c (now uses) (now hops) ⌝ }
+    ensures { λ r. ⌜ Noting (notes (now (uses .exit)) (now (places .exit))) (noteAll (rowStatements (now (pack .entry)) c row) place (notes (now (uses .entry)) (now (places .entry)))) (now (pack .entry)) c (now (hops .exit)) ⌝ }
 {
     if row.kind == 2 {
-        note_list(pack, c, Kids::Items, row.a, place, uses, places);
+        note_list(pack, c, Kids::Items, row.a, place, uses, places, hops);
     }
 }
 
@@ -47,8 +52,10 @@ fn note_operands(
     place: u32,
     uses: &mut [u32; Notes::CAPACITY],
     places: &mut [u32; Notes::CAPACITY],
+    hops: &mut [u32; Hops::CAPACITY],
 )
-    ensures { λ r. ⌜ notes (now (uses .exit)) (now (places .exit)) ≡ noteAll (rowOperands (now (pack .entry)) c row) place (notes (now (uses .entry)) (now (places .entry))) ⌝ }
+    requires { ⌜ HopsOf (now pack) c (now uses) (now hops) ⌝ }
+    ensures { λ r. ⌜ Noting (notes (now (uses .exit)) (now (places .exit))) (noteAll (rowOperands (now (pack .entry)) c row) place (notes (now (uses .entry)) (now (places .entry)))) (now (pack .entry)) c (now (hops .exit)) ⌝ }
 {
     let kind = row.kind;
     match kind {
@@ -62,14 +69,14 @@ fn note_operands(
         }
         4 => {
             note(row.a, place, uses, places);
-            note_list(pack, c, Kids::Arms, row.b, place, uses, places);
+            note_list(pack, c, Kids::Arms, row.b, place, uses, places, hops);
         }
         5 => {
             note(row.a, place, uses, places);
             note(row.b, place, uses, places);
         }
         6 => {
-            note_list(pack, c, Kids::Seconds, row.b, place, uses, places);
+            note_list(pack, c, Kids::Seconds, row.b, place, uses, places, hops);
         }
         7 => {
             note(row.a, place, uses, places);
@@ -89,12 +96,14 @@ fn note_row(
     place: u32,
     uses: &mut [u32; Notes::CAPACITY],
     places: &mut [u32; Notes::CAPACITY],
+    hops: &mut [u32; Hops::CAPACITY],
 )
-    ensures { λ r. ⌜ notes (now (uses .exit)) (now (places .exit)) ≡ noteRow (now (pack .entry)) c row place (notes (now (uses .entry)) (now (places .entry))) ⌝ }
+    requires { ⌜ HopsOf (now pack) c (now uses) (now hops) ⌝ }
+    ensures { λ r. ⌜ Noting (notes (now (uses .exit)) (now (places .exit))) (noteRow (now (pack .entry)) c row place (notes (now (uses .entry)) (now (places .entry)))) (now (pack .entry)) c (now (hops .exit)) ⌝ }
 {
     let depth = depth_below(place);
-    note_statements(pack, c, row, 2 * depth + 1, uses, places);
-    note_operands(pack, c, row, 2 * depth, uses, places);
+    note_statements(pack, c, row, 2 * depth + 1, uses, places, hops);
+    note_operands(pack, c, row, 2 * depth, uses, places, hops);
 }
 
 // The bodies of all roots, at depth 1.
@@ -121,8 +130,9 @@ pub fn note_pack(
     c: Counts,
     uses: &mut [u32; Notes::CAPACITY],
     places: &mut [u32; Notes::CAPACITY],
+    hops: &mut [u32; Hops::CAPACITY],
 )
-    requires { ⌜ (c .expressions ≤ 4096) × Clean (now uses) (now places) ⌝ }
+    requires { ⌜ (c .expressions ≤ 4096) × Clean (now uses) (now places) × (now hops ≡ replicate 24576 0) ⌝ }
     ensures { λ r. ⌜ Noted (now (pack .entry)) c 0 (notes (now (uses .exit)) (now (places .exit))) ⌝ }
 {
     note_bodies(pack, c, uses, places);
@@ -132,6 +142,6 @@ pub fn note_pack(
         let at = i as usize;
         let place = places[at];
         let row = expression_row(pack, c, i);
-        note_row(pack, c, row, place, uses, places);
+        note_row(pack, c, row, place, uses, places, hops);
     }
 }

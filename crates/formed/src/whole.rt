@@ -10,6 +10,7 @@ ghost use Rattle.formed.specs.Nodes.{nodeFits, nodesOf};
 ghost use Rattle.formed.specs.Notes.{notes};
 ghost use Rattle.formed.specs.Trees.{Noted, Ready};
 ghost use Rattle.formed.specs.Formed.{bodyOf, formedOf, treesOf};
+use crate::hops::Hops;
 use crate::notes::Notes;
 use crate::trees::note_pack;
 use pack::Counts;
@@ -99,7 +100,8 @@ fn trees(pack: &[u8], c: Counts) -> Reading
 {
     let mut uses = Notes::empty();
     let mut places = Notes::empty();
-    note_pack(pack, c, &mut uses.cells, &mut places.cells);
+    let mut hops = Hops::empty();
+    note_pack(pack, c, &mut uses.cells, &mut places.cells, &mut hops.cells);
     let once = nodes(pack, c, USES, &uses.cells, &places.cells);
     match once {
         Reading::Pack(_) => placed_well(pack, c, &uses.cells, &places.cells),

@@ -1,6 +1,8 @@
 use Rattle.formed.specs.Notes.{nodes, notes}
 use Rattle.formed.specs.Trees.{Noted}
+use Rattle.formed.specs.Hops.{Hops}
 use Rattle.formed.proofs.StepLaws.{start, step, walked}
+use Rattle.formed.proofs.HopLaws.{hops-none}
 use Rattle.laws.proofs.Bounded.{get-in}
 use borrow.Author.Needs.{needs}
 use native.Mathlib.Omega.{arith}
@@ -8,10 +10,10 @@ use Rattle.formed.proofs.trees.note_pack.Statement.{statement}
 use Rattle.formed.proofs.trees.note_pack.Tie as tie
 
 abbrev Inv-loop : tie.InvT-loop
-Inv-loop pack c uses₀ places₀ i₀ uses places i = Noted pack c i (notes uses places)
+Inv-loop pack c uses₀ places₀ hops₀ i₀ uses places hops i = Noted pack c i (notes uses places) × Hops pack c uses hops
 
 abbrev μ-loop : tie.MeasureT-loop
-μ-loop pack c uses₀ places₀ i₀ uses places i = i
+μ-loop pack c uses₀ places₀ hops₀ i₀ uses places hops i = i
 
 pub note-pack-spec : {M : Type 1} → statement M
-note-pack-spec = tie.close (tie.spec Inv-loop μ-loop (λ c κs. search needs) (λ c. start _ _ _ _ (c .before .before .before .before .pre .0) (c .before .before .before .before .pre .1) (c .note-bodies .ensures)) (λ c. search needs) (λ c. search needs) (λ c. search needs) (λ c. search needs) (λ c κs. search needs) (λ c κs. search needs) (λ c. search needs) (λ c. step _ _ (c .before .before .before .before .before .before .loop .inv) _ _ (omega arith) (get-in nodes _ _ (omega (arith, c .before .before .before .before .before .before .loop .inv .low, c .before .before .before .before .before .before .loop .inv .few))) (rw (c .before .before .before .expression-row .ensures) at (c .note-row .ensures))) (λ c. walked (omega arith) (c .before .loop .inv)))
+note-pack-spec = tie.close (tie.spec Inv-loop μ-loop (λ c κs. search needs) (λ c. (start _ _ _ _ (c .before .before .before .before .pre .0) (c .before .before .before .before .pre .1) (c .note-bodies .ensures), hops-none _ _ _ (c .before .before .before .before .pre .2))) (λ c. search needs) (λ c. search needs) (λ c. search needs) (λ c. omega (arith, c .before .loop .inv .0 .low, c .before .loop .inv .0 .few)) (λ c κs. search needs) (λ c κs. c .before .before .before .before .before .before .loop .inv .1) (λ c. search needs) (λ c. (step _ _ (c .before .before .before .before .before .before .before .loop .inv .0) _ _ (omega arith) (get-in nodes _ _ (omega (arith, c .before .before .before .before .before .before .before .loop .inv .0 .low, c .before .before .before .before .before .before .before .loop .inv .0 .few))) (rw (c .before .before .before .before .expression-row .ensures) at (c .note-row .ensures .is)), c .note-row .ensures .kept)) (λ c. walked (omega arith) (c .before .loop .inv .0)))
