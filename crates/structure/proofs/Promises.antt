@@ -3,6 +3,7 @@
 --     equal-code, code-equal     two codes are equal exactly if the types are     (of TypeCodes)
 --     table-code                 the code made from the table is the code of the row
 --     code-held                  a side that holds a variable, seen from its code
+--     quiet-code                 a row that holds none has no variable's code
 -- Two results that meet one contract are equal: codes-one, helds-one, empties-one and, where each row refers only to smaller ones,
 -- numbers-one. (Of other tables number_rows promises that it ends and is safe, the lengths, and what stands past the rows: the entries ask
 -- it of well-formed packs alone.)

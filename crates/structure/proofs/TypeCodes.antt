@@ -2,6 +2,7 @@
 --     equal-code, code-equal     both ways
 --     table-code                 the code from the table is the code of the row
 --     code-held                  a side that holds a variable, seen from its code
+--     quiet-code                 a row that holds none has no variable's code
 -- Assumes nothing.
 use mathlib.Core.Path.{_≡_, refl, sym, ap, _∙_}
 use mathlib.Core.List.{List, [], _∷_}
@@ -21,6 +22,7 @@ use Rattle.pack.specs.Lists.{listLen}
 use Rattle.pack.specs.Named.{partsOf}
 use Rattle.pack.specs.declared.counts.Counts.{Counts}
 use Rattle.unionfind.specs.Codes.{numbers, code, tag, number, neverTag, unitTag, primitiveTag, rowTag, anyTag, intTag, floatTag, definitionTag, isVar}
+use Rattle.unionfind.proofs.Chains.{not-both}
 use Rattle.structure.specs.Structure.{rows, PartsSmaller, paired, numbered, numberOf, equal, rowNumber, isVarKind, anyOf, holds}
 use Rattle.structure.specs.Lists.{listed, slotOf, lenAt}
 use Rattle.structure.specs.Table.{entry, Numbers}
@@ -204,6 +206,30 @@ module _ (p : List ℕ) (c : Counts) (small : PartsSmaller p c) where
   quiet i a k l f =
       holds-step p c small i a
       ∙ rw (f, any-part p c (holds p c) i .none (λ e. absurd (k e)) (λ m h. absurd (omega (arith, l))))
+
+  -- a row of a variable's kind holds one
+  var-holds : (i : ℕ) → i < c .types → isVarKind (typeRow p i .kind) ≡ true → holds p c i ≡ true
+  var-holds i a v = holds-step p c small i a ∙ rw v
+
+  -- a row that holds no variable has no variable's code
+  pub quiet-code : (i : ℕ) → i < c .types → i < rows → holds p c i ≡ false → isVar (codeOf p c i) ≡ false
+  unfolding isVar kindFor isVarKind
+  quiet-code i a r f = go (coded p c i)
+    where
+      tagged : (t : ℕ) → t < 8 → typeRow p i .kind ≡ kindFor t → (eqb t anyTag || eqb t intTag || eqb t floatTag) ≡ false
+      tagged zero h k = refl
+      tagged (suc zero) h k = refl
+      tagged (suc (suc zero)) h k = refl
+      tagged (suc (suc (suc zero))) h k = refl
+      tagged (suc (suc (suc (suc zero)))) h k = absurd (not-both f (var-holds i a (rw k)))
+      tagged (suc (suc (suc (suc (suc zero))))) h k = absurd (not-both f (var-holds i a (rw k)))
+      tagged (suc (suc (suc (suc (suc (suc zero)))))) h k = absurd (not-both f (var-holds i a (rw k)))
+      tagged (suc (suc (suc (suc (suc (suc (suc zero))))))) h k = refl
+      tagged (suc (suc (suc (suc (suc (suc (suc (suc t)))))))) h k = absurd (omega arith)
+
+      go : Coded p c i → isVar (codeOf p c i) ≡ false
+      go (plain t t3 t8 k n q l z) = rw (z, code-tag t n (rw q (number-of-small p i)) .0) (tagged t t8 k)
+      go (row z) = rw (z, code-tag rowTag (rowNumber p c i) (number-below i r) .0)
 
   module _ {same marks : List ℕ} (table : Numbers p c same marks) (i : ℕ) (a : i < c .types) (r : i < rows) where
     row-marked : not (eqb (entry marks (rowNumber p c i)) 0) ≡ holds p c i

@@ -147,6 +147,14 @@ module _ {n : ℕ} {xs : List ℕ} (l : Live n xs) where
 
 -- ---- fresh
 
+-- what is known stays known
+pub knows-more : {n x : ℕ} → Knows n x → Knows (n + 1) x
+knows-more k = record { var = λ e. omega (arith, k .var e) }
+
+-- a code that is no variable's is known to all
+pub knows-other : (n x : ℕ) → isVar x ≡ false → Knows n x
+knows-other n x f = record { var = λ e. absurd (not-both f e) }
+
 own-number : (t n : ℕ) → n < capacity → number (ownCode t n) ≡ n
 own-number t n h = omega arith
 
