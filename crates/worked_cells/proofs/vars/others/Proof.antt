@@ -1,0 +1,13 @@
+use Prim.Native.Nat.{_-_}
+use borrow.Author.Needs.{needs}
+use Rattle.worked_cells.proofs.vars.others.Statement.{statement}
+use Rattle.worked_cells.proofs.vars.others.Tie as tie
+
+abbrev Inv-loop : tie.InvT-loop
+Inv-loop cells x count₀ i₀ count i = Unit {0}
+
+abbrev μ-loop : tie.MeasureT-loop
+μ-loop cells x count₀ i₀ count i = 2048 - i
+
+pub others-spec : {M : Type 1} → statement M
+others-spec = tie.close (tie.spec Inv-loop μ-loop (λ c. search needs) (λ c. search needs) (λ c. search needs) (λ c κs. search needs) (λ c. search needs) (λ c. search needs) (λ c. search needs) (λ c. search needs))
