@@ -6,29 +6,28 @@
 --     held-path              and is reached from it
 --     path-variable          a path to the variable past no definition: a variable is held
 -- Assumes nothing.
-use Prim.Native.Nat.{ℕ, zero, suc, _+_, _*_, _-_, _<_, _≤_}
+use Prim.Native.Nat.{ℕ, zero, suc, _-_, _<_, _≤_}
 use mathlib.Core.Path.{_≡_, refl, sym, ap, _∙_}
 use mathlib.Core.Logic.{_⊎_, inl, inr, ⊎-elim}
-use mathlib.Core.Bool.{Bool, true, false, _&&_}
-use mathlib.Core.List.{List, [], _∷_, _++_}
+use mathlib.Core.Bool.{Bool, true, false}
+use mathlib.Core.List.{List, [], _∷_}
 use native.Mathlib.Omega.{arith}
-use lib.Dec.{eqb, leb}
+use lib.Dec.{leb}
 use lib.ListN.{getD}
-use borrow.Author.Tests.{eq-eqb, eqb-true, ne-eqb, leb-true, le-leb}
+use borrow.Author.Tests.{eq-eqb, eqb-true, leb-true, le-leb}
 use Rattle.laws.specs.Choice.{pick, byKind}
-use Rattle.laws.specs.Lists.{count, In}
-use Rattle.laws.proofs.Choice.{yes, no, by-eq, by-test, fails, and-both}
+use Rattle.laws.specs.Lists.{In}
+use Rattle.laws.proofs.Choice.{yes, no, by-test, fails, and-both}
 use Rattle.laws.proofs.Lists.{in-cons, in-one, in-append}
 use Rattle.pack.specs.Rows.{typeRow}
-use Rattle.pack.specs.Named.{secondsOf, typePartsOf, partsOf, fieldTypesOf}
+use Rattle.pack.specs.Named.{secondsOf, typePartsOf, partsOf}
 use Rattle.pack.specs.declared.counts.Counts.{Counts}
 use Rattle.pack.specs.declared.rows.TypeRow.{TypeRow}
-use Rattle.type_cycle.specs.Leads.{over, noneOf, isNamed, isRecord, isVariable, inside, typesIn, namesIn}
+use Rattle.type_cycle.specs.Leads.{over, noneOf, isRecord, isVariable, inside}
 use Rattle.type_cycle.specs.Walks.{Held, itself, part}
-use Rattle.type_cycle.specs.Graph.{atName, unresolved, rowAhead, ahead, Path, here, on, Reach, Within}
-use Rattle.type_cycle.specs.Search.{Ready}
+use Rattle.type_cycle.specs.Graph.{atName, unresolved, rowAhead, ahead, Path, here, on, Reach}
 use Rattle.type_cycle.specs.Order.{Good}
-use Rattle.type_cycle.proofs.VisitLaws.{in-first, in-rest, in-left, in-right, joined, step}
+use Rattle.type_cycle.proofs.VisitLaws.{in-first, in-rest, in-left, in-right}
 use Rattle.type_cycle.proofs.StepLaws.{type-ahead}
 
 -- ---- lists

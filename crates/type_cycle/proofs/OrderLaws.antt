@@ -4,7 +4,7 @@
 --     halves-down, halves-up, halves-end                 the loop that finds the smallest
 --     refused-at, none-refused                           what 41 says then
 -- Assumes nothing.
-use Prim.Native.Nat.{ℕ, zero, suc, _+_, _*_, _-_, _<_, _≤_}
+use Prim.Native.Nat.{ℕ, _+_, _-_, _<_, _≤_}
 use mathlib.Core.Path.{_≡_, refl, sym, ap, subst, _∙_}
 use mathlib.Core.Logic.{_⊎_, inl, inr, ⊎-elim}
 use mathlib.Core.Bool.{Bool, true, false, not}
@@ -13,16 +13,15 @@ use native.Mathlib.Omega.{arith}
 use lib.Dec.{eqb}
 use lib.ListN.{length, getD, replicate, length-replicate}
 use Rattle.laws.specs.Lists.{bit, count, In}
-use Rattle.laws.proofs.Choice.{by-eq, by-test, fails}
+use Rattle.laws.proofs.Choice.{by-eq, by-test}
 use Rattle.laws.proofs.First.{at-first, none-is}
 use Rattle.pack.specs.Named.{fieldTypesOf}
 use Rattle.pack.specs.Answer.{refuse}
 use Rattle.pack.specs.declared.counts.Counts.{Counts}
-use Rattle.pack.specs.declared.answer.Reading.{Reading}
 use Rattle.pack.specs.declared.answer.Reading.the-variants.{Pack}
 use Rattle.type_cycle.specs.Cycles.{onCycle, cycleOf}
-use Rattle.type_cycle.specs.Graph.{atName, places, ahead, Path, Round}
-use Rattle.type_cycle.specs.Search.{State, st, Seen, AllSeen, Ready, Can, Closed, Ordered, Visited}
+use Rattle.type_cycle.specs.Graph.{atName, Round}
+use Rattle.type_cycle.specs.Search.{State, st, Seen, AllSeen, Can, Closed, Ordered, Visited}
 use Rattle.type_cycle.specs.Order.{Good, Order, Sought, Smallest}
 use Rattle.type_cycle.proofs.VisitLaws.{weaker, follows, in-first}
 use Rattle.type_cycle.proofs.StepLaws.{fields-ahead}

@@ -5,16 +5,15 @@
 --                             itself; else the counts
 --     only                    and that is the only such answer
 -- Assumes nothing.
-use Prim.Native.Nat.{ℕ, _<_, _≤_}
+use Prim.Native.Nat.{ℕ, _<_}
 use mathlib.Core.Path.{_≡_, refl, sym, ap, _∙_}
 use mathlib.Core.Logic.{_⊎_, inl, inr, ⊎-elim}
 use mathlib.Core.Bool.{Bool, true, false, not}
 use mathlib.Core.List.{List}
 use native.Mathlib.Omega.{arith}
 use lib.Dec.{leb, ltb}
-use borrow.Author.Tests.{leb-true, le-leb, ltb-true, ltb-false}
+use borrow.Author.Tests.{leb-true, ltb-true, ltb-false, not-true, not-false}
 use Rattle.laws.specs.First.{first, until}
-use Rattle.laws.specs.Lists.{count, In}
 use Rattle.laws.proofs.Choice.{by-test, fails, and-both}
 use Rattle.laws.proofs.First.{at-first, none-is, until-is, Until}
 use Rattle.laws.proofs.Answers.{follows, stands}
@@ -101,14 +100,6 @@ module _ {p : List ℕ} {c : Counts} (g : Good p c) (d : ℕ) (l : d < c .defini
       (variable-kind p (u .row) (u .low) (u .high))
 
 -- ---- the answer
-
-not-true : (b : Bool) → not b ≡ true → b ≡ false
-not-true true e = absurd (fails (sym e))
-not-true false e = refl
-
-not-false : (b : Bool) → not b ≡ false → b ≡ true
-not-false true e = refl
-not-false false e = absurd (fails e)
 
 module _ (p : List ℕ) (c : Counts) (few : inLimits c ≡ true) (o : passes (rowsOf p c) ≡ true) where
   g : Good p c

@@ -1,19 +1,17 @@
 -- What rows without a fault give to the search: each definition and type that it comes to is there, and parts are smaller.
 -- Assumes nothing.
-use Prim.Native.Nat.{ℕ, _<_, _≤_}
-use mathlib.Core.Path.{_≡_, refl, sym, ap, _∙_}
-use mathlib.Core.Bool.{Bool, true, _&&_}
+use Prim.Native.Nat.{ℕ, _<_}
+use mathlib.Core.Path.{_≡_}
+use mathlib.Core.Bool.{true, _&&_}
 use mathlib.Core.List.{List}
 use native.Mathlib.Omega.{arith}
-use lib.Dec.{eqb, ltb}
+use lib.Dec.{ltb}
 use borrow.Author.Tests.{ltb-true}
-use Rattle.laws.specs.Choice.{pick, byKind}
-use Rattle.laws.specs.Lists.{count, In}
+use Rattle.laws.specs.Choice.{byKind}
 use Rattle.laws.proofs.Choice.{tested, and-both}
 use Rattle.pack.specs.Answer.{passes}
 use Rattle.pack.specs.Counts.{inLimits}
 use Rattle.pack.specs.Rows.{typeRow}
-use Rattle.pack.specs.Named.{partsOf, fieldTypesOf}
 use Rattle.pack.specs.declared.counts.Counts.{Counts}
 use Rattle.pack.specs.declared.rows.TypeRow.{TypeRow}
 use Rattle.rows.specs.Lists.{itemsFit}
@@ -21,8 +19,6 @@ use Rattle.rows.specs.Types.{typeInRange, namedFits, typeRule}
 use Rattle.rows.specs.Tables.{rowRule, rowsOf}
 use Rattle.rows.proofs.TableLaws.{limited}
 use Rattle.rows.proofs.Promises.{rule-passed, parts-smaller, fields-inside}
-use Rattle.type_cycle.specs.Graph.{Within, RowInside}
-use Rattle.type_cycle.specs.Search.{Ready}
 use Rattle.type_cycle.specs.Order.{Good}
 use Rattle.type_cycle.proofs.LeadLaws.{parts-seconds}
 

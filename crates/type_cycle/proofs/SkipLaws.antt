@@ -7,26 +7,26 @@
 --     visited-item an item that was visited now, and its skip
 -- Assumes nothing.
 use Prim.Native.Nat.{ℕ, zero, suc, _+_, _*_, _-_, _<_, _≤_, min}
-use mathlib.Core.Path.{_≡_, refl, sym, ap, _∙_}
+use mathlib.Core.Path.{_≡_, refl, ap, _∙_}
 use mathlib.Core.Logic.{_⊎_, inl, inr, ⊎-elim}
 use mathlib.Core.List.{List, [], _∷_, _++_, append-nil}
 use native.Mathlib.Nat.{zero-add}
 use lib.Dec.{ltb}
 use borrow.Author.Tests.{ltb-true, ltb-false}
 use native.Mathlib.Omega.{arith}
-use lib.ListN.{length, getD, set}
+use lib.ListN.{getD, set}
 use Rattle.laws.specs.Bounded.{get, put}
-use Rattle.laws.specs.Lists.{count, In, gather}
+use Rattle.laws.specs.Lists.{In, gather}
 use Rattle.laws.proofs.Choice.{by-eq, by-test}
-use Rattle.laws.proofs.Bounded.{by-bound, get-in, get-out, put-in, put-out, get-same, get-other}
+use Rattle.laws.proofs.Bounded.{by-bound, get-in, get-out, put-in, get-other}
 use Rattle.laws.proofs.Lists.{gather-split, in-gather, gather-in}
-use Rattle.pack.specs.Lists.{listWord, listItem}
+use Rattle.pack.specs.Lists.{listItem}
 use Rattle.pack.specs.declared.counts.Counts.{Counts}
 use Rattle.type_cycle.specs.declared.skips.Listed.{Listed}
 use Rattle.type_cycle.specs.declared.skips.Listed.the-variants.{Types, Fields, Variants}
 use Rattle.type_cycle.specs.Graph.{itemTypes}
 use Rattle.type_cycle.specs.Skips.{wordOf, stride, wordTypes, skipPlace, skipPlaces, skipOf, putSkip}
-use Rattle.type_cycle.specs.Search.{State, st, Seen, AllSeen, Skipped, Passes, Closed, Ordered, Visited}
+use Rattle.type_cycle.specs.Search.{State, st, AllSeen, Skipped, Passes, Visited}
 use Rattle.type_cycle.proofs.VisitLaws.{in-right, along}
 
 word-on : (items : Listed) (s k j : ℕ) → wordOf items s (k + j) ≡ wordOf items s k + stride items * j

@@ -1,13 +1,13 @@
 -- What a definition, a type's row and a list's item lead to, in the words of the code that visits them.
 -- Assumes nothing.
-use Prim.Native.Nat.{ℕ, zero, suc, _+_, _*_, _-_, _<_, _≤_}
-use mathlib.Core.Path.{_≡_, refl, sym, ap, _∙_}
+use Prim.Native.Nat.{ℕ, _+_, _*_, _-_, _<_, _≤_}
+use mathlib.Core.Path.{_≡_, refl, ap, _∙_}
 use mathlib.Core.List.{List, [], _∷_}
 use native.Mathlib.Omega.{arith}
 use lib.ListN.{length, getD, set, length-set}
 use borrow.Author.Tests.{lt-ltb, le-ltb}
 use Rattle.laws.specs.Choice.{pick, byKind}
-use Rattle.laws.specs.Lists.{count, In, gather}
+use Rattle.laws.specs.Lists.{count, gather}
 use Rattle.laws.proofs.Choice.{yes, no, NoneOf, past-kinds}
 use Rattle.laws.proofs.Lists.{in-gather}
 use Rattle.pack.specs.Lists.{listLen, listItem}
@@ -18,8 +18,8 @@ use Rattle.pack.specs.declared.rows.TypeRow.{TypeRow}
 use Rattle.pack.specs.declared.rows.DefinitionRow.{DefinitionRow}
 use Rattle.type_cycle.specs.declared.skips.Listed.{Listed}
 use Rattle.type_cycle.specs.declared.skips.Listed.the-variants.{Types, Fields, Variants}
-use Rattle.type_cycle.specs.Graph.{atName, unresolved, places, rowAhead, ahead, itemTypes, listTypes, Within, RowInside}
-use Rattle.type_cycle.specs.Search.{State, st, Pushes, Ready, Can, Visited}
+use Rattle.type_cycle.specs.Graph.{atName, unresolved, places, rowAhead, ahead, itemTypes, listTypes, Within}
+use Rattle.type_cycle.specs.Search.{State, st, Pushes, Can, Visited}
 use Rattle.type_cycle.proofs.VisitLaws.{in-first, one-less, marked, enters, leaves}
 
 -- ---- lists

@@ -5,27 +5,26 @@
 --     clear                     no variable met: the definition is resolved, and the marks stay right
 --     met                       the variable met: it is not
 -- Assumes nothing.
-use Prim.Native.Nat.{ℕ, zero, suc, _+_, _*_, _-_, _<_, _≤_}
+use Prim.Native.Nat.{ℕ, zero, suc, _+_, _-_, _<_, _≤_}
 use mathlib.Core.Path.{_≡_, refl, sym, ap, _∙_}
-use mathlib.Core.Logic.{_⊎_, inl, inr, ⊎-elim}
-use mathlib.Core.Bool.{Bool, true, false}
+use mathlib.Core.Logic.{_⊎_, inl, ⊎-elim}
+use mathlib.Core.Bool.{true, false}
 use mathlib.Core.List.{List, [], _∷_}
 use native.Mathlib.Omega.{arith}
-use lib.ListN.{length, getD, set, replicate, length-set, length-replicate, getD-replicate, List·getD-eq-default}
-use Rattle.laws.specs.Lists.{count, In, gather}
+use lib.ListN.{length, getD, set, replicate, length-set, length-replicate}
+use Rattle.laws.specs.Lists.{In, gather}
 use Rattle.laws.specs.Bounded.{get}
-use Rattle.laws.proofs.Choice.{by-eq, by-test, fails}
+use Rattle.laws.proofs.Choice.{by-eq, by-test}
 use Rattle.laws.proofs.Bounded.{by-bound, get-in, get-out}
 use Rattle.laws.proofs.Lists.{in-one, gather-in, in-gather}
-use Rattle.pack.specs.Rows.{typeRow}
-use Rattle.pack.specs.Named.{partsOf, fieldTypesOf}
+use Rattle.pack.specs.Named.{fieldTypesOf}
 use Rattle.pack.specs.declared.counts.Counts.{Counts}
 use Rattle.type_cycle.specs.Leads.{over, isVariable, inside, typesIn}
 use Rattle.type_cycle.specs.Cycles.{resolved}
 use Rattle.type_cycle.specs.Walks.{Held, itself, part}
-use Rattle.type_cycle.specs.Graph.{atName, unresolved, places, ahead, Path}
-use Rattle.type_cycle.specs.Skips.{skipPlace, skipPlaces, skipOf}
-use Rattle.type_cycle.specs.Search.{State, st, Seen, AllSeen, Ready, Can, Skipped, Closed, Visited}
+use Rattle.type_cycle.specs.Graph.{atName, unresolved, ahead}
+use Rattle.type_cycle.specs.Skips.{skipPlace, skipPlaces}
+use Rattle.type_cycle.specs.Search.{State, st, Seen, AllSeen, Can, Skipped, Closed, Visited}
 use Rattle.type_cycle.specs.Order.{Good, Walled}
 use Rattle.type_cycle.proofs.VisitLaws.{in-first, mark-here, mark-keeps, mark-only}
 use Rattle.type_cycle.proofs.LeadLaws.{over-in, in-over, none-true, none-false, variable-ahead, inside-held, held-inside, held-few, part-ahead, path-variable}

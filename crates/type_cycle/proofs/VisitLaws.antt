@@ -12,10 +12,9 @@ use mathlib.Core.List.{List, [], _∷_, _++_}
 use native.Mathlib.Omega.{arith}
 use lib.ListN.{length, getD, set, length-set}
 use lib.Seq.{getD-set-same, getD-set-other}
-use Rattle.laws.specs.Bounded.{put}
 use Rattle.laws.specs.Lists.{count, In}
 use Rattle.laws.proofs.Choice.{by-eq}
-use Rattle.laws.proofs.Bounded.{put-in, put-length}
+use Rattle.laws.proofs.Bounded.{put-in}
 use Rattle.laws.proofs.Lists.{count-append, count-same, in-cons, in-one, in-append}
 use Rattle.pack.specs.declared.counts.Counts.{Counts}
 use Rattle.type_cycle.specs.Graph.{atName, places, ahead, Path, here, on, Reach, Round}

@@ -4,17 +4,16 @@
 --     walk-round, round-walk    the last two
 --     cyclic, round             a definition on a cycle, and a path from it back to it
 -- Assumes nothing.
-use Prim.Native.Nat.{ℕ, zero, suc, _+_, _*_, _-_, _<_, _≤_}
-use mathlib.Core.Path.{_≡_, refl, sym, ap, subst, _∙_}
+use Prim.Native.Nat.{ℕ, zero, suc, _-_, _<_}
+use mathlib.Core.Path.{_≡_, refl, sym, subst, _∙_}
 use mathlib.Core.Logic.{_⊎_, inl, inr, ⊎-elim}
 use mathlib.Core.Bool.{Bool, true, false, _&&_}
 use mathlib.Core.List.{List, [], _∷_}
 use native.Mathlib.Omega.{arith}
-use lib.Dec.{eqb, leb}
 use borrow.Author.Tests.{eq-eqb, eqb-true, leb-true, le-leb}
 use Rattle.laws.specs.Choice.{pick}
 use Rattle.laws.specs.Lists.{count, In}
-use Rattle.laws.proofs.Choice.{yes, no, by-eq, by-test, fails, and-both}
+use Rattle.laws.proofs.Choice.{yes, no, by-eq, by-test, and-both}
 use Rattle.laws.proofs.Lists.{in-one}
 use Rattle.pack.specs.Rows.{typeRow}
 use Rattle.pack.specs.Named.{partsOf, fieldTypesOf}
@@ -22,8 +21,7 @@ use Rattle.pack.specs.declared.counts.Counts.{Counts}
 use Rattle.type_cycle.specs.Leads.{over, isNamed, inside, typesIn, namesIn}
 use Rattle.type_cycle.specs.Cycles.{leads, onCycle}
 use Rattle.type_cycle.specs.Walks.{Held, itself, part, Step, Walk, one, more}
-use Rattle.type_cycle.specs.Graph.{atName, unresolved, ahead, Path, here, on, Reach, Round}
-use Rattle.type_cycle.specs.Search.{Ready}
+use Rattle.type_cycle.specs.Graph.{atName, unresolved, ahead, here, on, Reach, Round}
 use Rattle.type_cycle.specs.Order.{Good}
 use Rattle.type_cycle.proofs.VisitLaws.{in-first, joined, step, onward}
 use Rattle.type_cycle.proofs.StepLaws.{fields-ahead, nothing-ahead}

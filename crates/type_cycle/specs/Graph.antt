@@ -6,7 +6,7 @@ use mathlib.Core.List.{List, [], _∷_}
 use lib.Dec.{ltb}
 use lib.ListN.{getD}
 use Rattle.laws.specs.Choice.{pick, byKind}
-use Rattle.laws.specs.Lists.{count, In, gather}
+use Rattle.laws.specs.Lists.{In, gather}
 use Rattle.pack.specs.Rows.{typeRow}
 use Rattle.pack.specs.Lists.{listLen, listItem}
 use Rattle.pack.specs.Named.{itemsOf, secondsOf, fieldTypesOf}
@@ -15,8 +15,15 @@ use Rattle.pack.specs.declared.rows.TypeRow.{TypeRow}
 use Rattle.type_cycle.specs.declared.skips.Listed.{Listed}
 use Rattle.type_cycle.specs.declared.skips.Listed.the-variants.{Types, Fields, Variants}
 
+-- "types t ≤ 2,048, definitions d ≤ 512"
+abbrev pub maxTypes : ℕ
+maxTypes = 2048
+
+abbrev pub maxDefinitions : ℕ
+maxDefinitions = 512
+
 abbrev pub atName : ℕ → ℕ
-atName d = 2048 + d
+atName d = maxTypes + d
 
 abbrev pub unresolved : ℕ
 unresolved = 2560
@@ -24,6 +31,7 @@ unresolved = 2560
 abbrev pub places : ℕ
 places = 2561
 
+-- where a type's row leads
 unfoldable pub rowAhead : List ℕ → Counts → TypeRow → List ℕ
 rowAhead p c r =
     byKind r (r .kind) []
@@ -40,8 +48,9 @@ rowAhead p c r =
     ∷ (λ r. unresolved ∷ [])
     ∷ [])
 
+-- where a place leads
 unfoldable pub ahead : List ℕ → Counts → ℕ → List ℕ
-ahead p c x = pick (ltb x 2048) (rowAhead p c (typeRow p x)) (pick (ltb x unresolved) (fieldTypesOf p c (x - 2048)) [])
+ahead p c x = pick (ltb x maxTypes) (rowAhead p c (typeRow p x)) (pick (ltb x unresolved) (fieldTypesOf p c (x - maxTypes)) [])
 
 -- from x to y, where no place that is left has a mark
 pub data Path (p : List ℕ) (c : Counts) (marks : List ℕ) : ℕ → ℕ → Type 0 where

@@ -1,10 +1,10 @@
 -- What the passes over all definitions promise each other.
-use Prim.Native.Nat.{ℕ, _+_, _<_, _≤_}
+use Prim.Native.Nat.{ℕ, _<_, _≤_}
 use mathlib.Core.Path.{_≡_}
 use mathlib.Core.Bool.{true, false}
 use mathlib.Core.List.{List}
 use lib.ListN.{length, getD}
-use Rattle.laws.specs.Lists.{count, In}
+use Rattle.laws.specs.Lists.{In}
 use Rattle.pack.specs.Named.{partsOf}
 use Rattle.pack.specs.declared.counts.Counts.{Counts}
 use Rattle.type_cycle.specs.Graph.{atName, places, Round}

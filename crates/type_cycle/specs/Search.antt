@@ -3,17 +3,15 @@ use Prim.Native.Nat.{ℕ, _+_, _*_, _<_, _≤_}
 use mathlib.Core.Path.{_≡_}
 use mathlib.Core.Logic.{_⊎_}
 use mathlib.Core.List.{List, [], _∷_}
-use lib.Dec.{ltb}
 use lib.ListN.{length, getD}
-use Rattle.laws.specs.Choice.{pick}
 use Rattle.laws.specs.Bounded.{put}
 use Rattle.laws.specs.Lists.{count, In}
 use Rattle.pack.specs.Rows.{typeRow}
 use Rattle.pack.specs.Named.{fieldTypesOf}
 use Rattle.pack.specs.declared.counts.Counts.{Counts}
 use Rattle.type_cycle.specs.declared.skips.Listed.{Listed}
-use Rattle.type_cycle.specs.Graph.{atName, unresolved, places, ahead, Path, Reach, Round, Within, RowInside, itemTypes}
-use Rattle.type_cycle.specs.Skips.{wordOf, stride, wordTypes, skipOf}
+use Rattle.type_cycle.specs.Graph.{maxTypes, maxDefinitions, atName, unresolved, places, ahead, Path, Reach, Round, Within, RowInside, itemTypes}
+use Rattle.type_cycle.specs.Skips.{stride, wordTypes, skipOf}
 
 pub record State : Type 0 where
   pub marks : List ℕ
@@ -33,8 +31,8 @@ AllSeen marks xs = (x : ℕ) → In x xs → Seen marks x
 -- ---- what a pack whose rows have no fault gives
 
 pub record Ready (p : List ℕ) (c : Counts) : Type 0 where
-  pub few-types : c .types ≤ 2048
-  pub few-definitions : c .definitions ≤ 512
+  pub few-types : c .types ≤ maxTypes
+  pub few-definitions : c .definitions ≤ maxDefinitions
   pub rows : (t : ℕ) → t < c .types → RowInside p c (typeRow p t)
   pub fields : (d : ℕ) → d < c .definitions → Within c (fieldTypesOf p c d)
 
@@ -78,10 +76,10 @@ pub record Ordered (p : List ℕ) (c : Counts) (opened : List ℕ) (s : State) :
   pub long : length (s .order) ≡ places
   pub room : s .left + count 0 (s .marks) ≤ places
   pub open-seen : (x : ℕ) → In x opened → Seen (s .marks) x
-  pub listed : (d : ℕ) → d < 512 → Seen (s .marks) (atName d) → In (atName d) opened ⊎ ((i : ℕ) × (i < s .left) × (leftAt s i ≡ d))
-  pub left-seen : (i : ℕ) → i < s .left → (leftAt s i < 512) × Seen (s .marks) (atName (leftAt s i)) × (In (atName (leftAt s i)) opened → ⊥)
+  pub listed : (d : ℕ) → d < maxDefinitions → Seen (s .marks) (atName d) → In (atName d) opened ⊎ ((i : ℕ) × (i < s .left) × (leftAt s i ≡ d))
+  pub left-seen : (i : ℕ) → i < s .left → (leftAt s i < maxDefinitions) × Seen (s .marks) (atName (leftAt s i)) × (In (atName (leftAt s i)) opened → ⊥)
   pub before : (i j : ℕ) → i < j → j < s .left → Round p c (atName (leftAt s i)) (atName (leftAt s j)) → Round p c (atName (leftAt s i)) (atName (leftAt s i))
-  pub later : (i e : ℕ) → i < s .left → e < 512 → ((j : ℕ) → j < s .left → leftAt s j ≡ e → ⊥) → Round p c (atName (leftAt s i)) (atName e)
+  pub later : (i e : ℕ) → i < s .left → e < maxDefinitions → ((j : ℕ) → j < s .left → leftAt s j ≡ e → ⊥) → Round p c (atName (leftAt s i)) (atName e)
       → Round p c (atName (leftAt s i)) (atName (leftAt s i))
 
 -- from a list of places on: what was met is what they lead to

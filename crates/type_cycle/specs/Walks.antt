@@ -3,7 +3,7 @@
 use Prim.Native.Nat.{ℕ, _<_, _≤_}
 use mathlib.Core.Path.{_≡_}
 use mathlib.Core.List.{List}
-use Rattle.laws.specs.Lists.{count, In}
+use Rattle.laws.specs.Lists.{In}
 use Rattle.pack.specs.Answer.{refuse}
 use Rattle.pack.specs.Rows.{typeRow}
 use Rattle.pack.specs.Named.{partsOf, fieldTypesOf}

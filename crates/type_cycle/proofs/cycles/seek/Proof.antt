@@ -1,7 +1,6 @@
-use Rattle.type_cycle.specs.Order.{Good, Order}
 use Rattle.type_cycle.proofs.OrderLaws.{Seeking, seek-starts, seek-passes, seek-goes, seek-stops, seek-ends}
 use mathlib.Core.Path.{refl}
-use Prim.Native.Nat.{_≤_, _-_}
+use Prim.Native.Nat.{_-_}
 use borrow.Author.Needs.{needs}
 use native.Mathlib.Omega.{arith}
 use Rattle.type_cycle.proofs.cycles.seek.Statement.{statement}

@@ -6,7 +6,6 @@ use Rattle.type_cycle.proofs.visits.visit_name.Reads as visit-name
 use Rattle.type_cycle.proofs.visits.visit_row.Reads as visit-row
 use Rattle.type_cycle.proofs.visits.+visit+visit_fields+visit_item+visit_list+visit_name+visit_row.Lts-visit_row as visit-row-lts
 use Rattle.type_cycle.proofs.visits.+visit+visit_fields+visit_item+visit_list+visit_name+visit_row.Proof.Common.{visit-list-below, visit-name-below, visit-row-at}
-use borrow.Author.Needs.{needs}
 use native.Mathlib.Omega.{arith}
 use Rattle.laws.specs.Choice.{byKind}
 use Rattle.type_cycle.specs.Graph.{rowAhead}
