@@ -1,3 +1,4 @@
+-- The cells stay loop-free. The measure is how many links are left.
 use Prim.Native.Nat.{_-_}
 use Rattle.unionfind.specs.Cells.{LoopFree}
 use borrow.Author.Needs.{needs}

@@ -1,3 +1,4 @@
+-- The variables made so far are those in use. The measure is how many are left to make.
 use Prim.Native.Nat.{_-_}
 use Rattle.unionfind.specs.Cells.{Live}
 use borrow.Author.Needs.{needs}

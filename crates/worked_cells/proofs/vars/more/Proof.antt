@@ -1,3 +1,4 @@
+-- A variable was made, or there was no room: as many are in use as the answer says.
 use borrow.Author.Needs.{needs}
 use Rattle.worked_cells.proofs.vars.more.Statement.{statement}
 use Rattle.worked_cells.proofs.vars.more.Tie as tie

@@ -1,3 +1,4 @@
+-- The measure is how many cells are left.
 use Prim.Native.Nat.{_-_}
 use borrow.Author.Needs.{needs}
 use Rattle.worked_cells.proofs.vars.others.Statement.{statement}
