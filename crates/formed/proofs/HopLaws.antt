@@ -11,13 +11,14 @@ use mathlib.Core.List.{List, [], _∷_, _++_}
 use native.Mathlib.Omega.{arith}
 use native.Mathlib.Nat.{mul-add, mul-zero, add-zero, add-suc, suc-add}
 use lib.Dec.{leb, ltb}
-use lib.ListN.{length, getD, set, replicate, length-set, length-replicate}
+use lib.ListN.{length, getD, set, replicate, length-set, length-replicate, getD-replicate}
 use lib.Seq.{getD-set-same, getD-set-other}
 use borrow.Author.Tests.{le-leb, lt-leb, leb-true, leb-false, lt-ltb, le-ltb, ltb-true, ltb-false}
 use Rattle.laws.specs.Choice.{pick}
 use Rattle.laws.specs.Bounded.{get, put}
 use Rattle.laws.specs.Lists.{gather}
 use Rattle.laws.proofs.Choice.{yes, no, by-eq, by-test, and-both, fails}
+use Rattle.laws.proofs.Tests.{and-true, or-true, or-false}
 use Rattle.laws.proofs.Bounded.{get-in, put-out, get-other}
 use Rattle.pack.specs.Lists.{listWord, listLen, listItem}
 use Rattle.pack.specs.Named.{optional}
@@ -29,18 +30,6 @@ use Rattle.formed.specs.Hops.{stride, kidsFrom, full, allFull, line, hop
 use Rattle.formed.proofs.NoteLaws.{by-naming, note-append}
 
 -- ---- full
-
-or-true : (a : Bool) → (a || true) ≡ true
-or-true true = refl
-or-true false = refl
-
-or-false : (a : Bool) → (a || false) ≡ a
-or-false true = refl
-or-false false = refl
-
-and-true : (a : Bool) → (a && true) ≡ a
-and-true true = refl
-and-true false = refl
 
 module _ (uses : List ℕ) (k : ℕ) where
   pub full-out : nodes ≤ k → full uses k ≡ true
@@ -187,11 +176,6 @@ line-most Items = omega arith
 line-most Seconds = omega arith
 line-most Arms = omega arith
 
-zero-at : (n x : ℕ) → getD {A = ℕ} (replicate n 0) x 0 ≡ 0
-zero-at zero x = refl
-zero-at (suc n) zero = refl
-zero-at (suc n) (suc x) = zero-at n x
-
 pub hops-none : (p : List ℕ) (c : Counts) (uses : List ℕ) {hops : List ℕ} → hops ≡ replicate {A = ℕ} 24576 0 → Hops p c uses hops
 hops-none p c uses {hops} e =
     record {
@@ -202,7 +186,7 @@ hops-none p c uses {hops} e =
     none : (kids : Kids) (j : ℕ) → hopAt hops kids j ≡ 0
     none kids j =
         by-test (ltb j 8192)
-        (λ t. hop-in hops kids j (ltb-true j 8192 t) ∙ ap (λ (l : List ℕ). getD l (line kids + j) 0) e ∙ zero-at 24576 (line kids + j))
+        (λ t. hop-in hops kids j (ltb-true j 8192 t) ∙ ap (λ (l : List ℕ). getD l (line kids + j) 0) e ∙ getD-replicate 24576 (line kids + j) 0 0 (omega (arith, ltb-true j 8192 t, line-most kids)))
         (λ f. hop-out hops kids j (ltb-false j 8192 f))
 
 pub hops-kept : {p : List ℕ} {c : Counts} {r : Notes} {hops : List ℕ} (ks : List ℕ) (place : ℕ) (s : Notes) → Hops p c (s .uses) hops → r ≡ noteAll ks place s → Hops p c (r .uses) hops

@@ -12,6 +12,7 @@ use borrow.Author.Tests.{leb-true, ltb-true, lt-ltb, le-ltb}
 use Rattle.laws.specs.Choice.{pick, byKind}
 use Rattle.laws.specs.First.{all}
 use Rattle.laws.proofs.Choice.{and-both}
+use Rattle.laws.proofs.Tests.{same-test, all-same, all-both}
 use Rattle.pack.specs.Lists.{listWord, listLen, listItem}
 use Rattle.pack.specs.declared.counts.Counts.{Counts}
 use Rattle.rows.specs.Limits.{names, wild, optionalBelow}
@@ -19,7 +20,6 @@ use Rattle.rows.specs.Lists.{listFits, wordsOf, idsFit, slotsFit, itemFi
 use Rattle.rows.specs.Peaks.{never, weight, stride}
 use Rattle.rows.specs.declared.lists.Items.{Items}
 use Rattle.rows.specs.declared.lists.Items.the-variants.{Ids, Pairs, Variants, Arms}
-use Rattle.rows.proofs.PeakLaws.{same-test, all-same, all-both}
 
 pub fits : (c : Counts) (s words : ℕ) → listFits c s words ≡ true → s + 1 + words ≤ c .words
 unfolding listFits

@@ -15,12 +15,12 @@ use borrow.Author.Tests.{eqb-true, eq-eqb, ne-eqb, ltb-true, ltb-false}
 use Rattle.laws.specs.Choice.{pick, byKind}
 use Rattle.laws.specs.First.{all}
 use Rattle.laws.proofs.Choice.{yes, no, by-eq, by-test, fails}
+use Rattle.laws.proofs.Tests.{same-test, all-in, all-of, all-same}
 use Rattle.pack.specs.Lists.{listWord, listLen, listItem}
 use Rattle.pack.specs.declared.counts.Counts.{Counts}
 use Rattle.rows.specs.Lists.{listFits}
 use Rattle.rows.specs.Names.{nameAt, fresh, namesDiffer, itemsRise, Named}
 use Rattle.rows.specs.Peaks.{key, lastOf, earlier, region, Earlier, weight, stride}
-use Rattle.rows.proofs.PeakLaws.{same-test, all-in, all-of, all-same}
 use Rattle.rows.proofs.ListLaws.{light}
 
 pub record Met (p : List ℕ) (c : Counts) (j : ℕ) (marks places : List ℕ) : Type 0 where

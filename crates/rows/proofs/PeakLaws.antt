@@ -16,43 +16,9 @@ use lib.Seq.{getD-set-same, getD-set-other}
 use borrow.Author.Tests.{lt-ltb, ltb-true, eqb-true, ne-eqb}
 use Rattle.laws.specs.First.{all}
 use Rattle.laws.proofs.Choice.{by-eq, by-test, fails, and-both}
-use Rattle.laws.proofs.First.{each, none-is, first-past}
+use Rattle.laws.proofs.Tests.{same-test, or-true, or-right, all-in, all-of, same-all}
 use Rattle.pack.specs.declared.counts.Counts.{Counts}
 use Rattle.rows.specs.Peaks.{weight, stride, region, leaves, lane, spot, place, leaf, Tips, Nodes, Peaks, edgesBelow}
-
--- ---- tests of each place
-
-pub same-test : (a b : Bool) → (a ≡ true → b ≡ true) → (b ≡ true → a ≡ true) → a ≡ b
-same-test true true f g = refl
-same-test true false f g = sym (f refl)
-same-test false true f g = g refl
-same-test false false f g = refl
-
-module _ (ok : ℕ → Bool) (i n : ℕ) where
-  pub all-in : all ok i n ≡ true → (k : ℕ) → i ≤ k → k < n → ok k ≡ true
-  all-in e k l h = each ok (λ j. false) true (λ b. b) (λ j f. refl) n i e k l h
-
-  pub all-of : ((k : ℕ) → i ≤ k → k < n → ok k ≡ true) → all ok i n ≡ true
-  all-of r = none-is ok (λ j. false) true i n r
-
--- a test of the n places from a on
-pub same-all : (f g : ℕ → Bool) (a n : ℕ) → ((k : ℕ) → k < n → f (a + k) ≡ g k) → all f a (a + n) ≡ all g 0 n
-same-all f g a n r =
-    same-test (all f a (a + n)) (all g 0 n)
-    (λ e. all-of g 0 n (λ k l h. sym (r k h) ∙ all-in f a (a + n) e (a + k) (omega arith) (omega arith)))
-    (λ e. all-of f a (a + n) (λ x l h. let q : x ≡ a + (x - a) = omega arith in ap f q ∙ r (x - a) (omega arith) ∙ all-in g 0 n e (x - a) (omega arith) (omega arith)))
-
-pub all-same : (f g : ℕ → Bool) (n : ℕ) → ((k : ℕ) → k < n → f k ≡ g k) → all f 0 n ≡ all g 0 n
-all-same f g n r =
-    same-test (all f 0 n) (all g 0 n)
-    (λ e. all-of g 0 n (λ k l h. sym (r k h) ∙ all-in f 0 n e k l h))
-    (λ e. all-of f 0 n (λ k l h. r k h ∙ all-in g 0 n e k l h))
-
-pub all-both : (f g : ℕ → Bool) (n : ℕ) → (all f 0 n && all g 0 n) ≡ all (λ k. f k && g k) 0 n
-all-both f g n =
-    same-test (all f 0 n && all g 0 n) (all (λ k. f k && g k) 0 n)
-    (λ e. let h = and-both (all f 0 n) (all g 0 n) e in all-of (λ k. f k && g k) 0 n (λ k l u. rw (all-in f 0 n (h .0) k l u) (all-in g 0 n (h .1) k l u)))
-    (λ e. rw (all-of f 0 n (λ k l u. and-both (f k) (g k) (all-in (λ k. f k && g k) 0 n e k l u) .0)) (all-of g 0 n (λ k l u. and-both (f k) (g k) (all-in (λ k. f k && g k) 0 n e k l u) .1)))
 
 -- ---- filling
 
@@ -114,14 +80,6 @@ peaks-of {c = c} few e l n k t =
     }
 
 -- ---- a range of places
-
-or-right : (a b : Bool) → (a || b) ≡ true → a ≡ false → b ≡ true
-or-right true b e f = absurd (fails f)
-or-right false b e f = e
-
-or-true : (a : Bool) → (a || true) ≡ true
-or-true true = refl
-or-true false = refl
 
 abbrev pub below : List ℕ → ℕ → ℕ → Bool
 below cells limit x = ltb (getD cells x 0) limit

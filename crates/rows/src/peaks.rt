@@ -32,6 +32,9 @@ impl Peaks {
     }
 }
 
+// The forms of items: ids, words of pairs, variants, arms, names, references.
+const FORMS: u32 = 6;
+
 // How many words an item of a form takes.
 fn stride(form: u32) -> u32
     ensures { λ r. ⌜ r ≡ strideOf form ⌝ }
@@ -106,7 +109,7 @@ fn fill_leaves(
     requires { ⌜ Nested (now pack) c (now fields) (now slots) × Earlier (now pack) c (now earlier) × (length (now cells) ≡ 98304) ⌝ }
     ensures { λ r. ⌜ Tips (now (pack .entry)) c (leavesOf c) (now (cells .exit)) ⌝ }
 {
-    let n = 6 * region(c);
+    let n = FORMS * region(c);
     let mut x = 0;
     while x < n {
         let at = (n + x) as usize;
@@ -120,7 +123,7 @@ fn fill_nodes(pack: &[u8], c: Counts, cells: &mut [u32; Peaks::CAPACITY])
     requires { ⌜ (c .words ≤ 8184) × Tips (now pack) c (leavesOf c) (now cells) ⌝ }
     ensures { λ r. ⌜ PeaksOf (now (pack .entry)) c (now (cells .exit)) ⌝ }
 {
-    let mut y = 6 * region(c);
+    let mut y = FORMS * region(c);
     while 1 < y {
         y -= 1;
         let at = y as usize;
@@ -158,12 +161,12 @@ fn edges_below(cells: &[u32; Peaks::CAPACITY], l: u32, r: u32, limit: u32) -> bo
     )
 }
 
-// Whether each cell from l on, up to r, is below the limit. What is left of the ends is judged by the nodes above.
+// Whether each of n leaves is below the limit. What lies between the ends of a range is judged by the nodes above it.
 fn range_below(c: Counts, cells: &[u32; Peaks::CAPACITY], from: u32, n: u32, limit: u32) -> bool
     requires { ⌜ (c .words ≤ 8184) × Nodes (leavesOf c) 1 (now cells) × (from + n ≤ leavesOf c) ⌝ }
     ensures { λ q. ⌜ q ≡ all (λ x. ltb (getD (now (cells .entry)) x 0) limit) (leavesOf c + from) (leavesOf c + from + n) ⌝ }
 {
-    let mut l = 6 * region(c) + from;
+    let mut l = FORMS * region(c) + from;
     let mut r = l + n;
     while l < r {
         let fit = edges_below(cells, l, r, limit);
