@@ -9,9 +9,9 @@ use mathlib.Core.List.{List, [], _∷_}
 use mathlib.Core.Bool.{Bool, true, false, not, _&&_, _||_}
 use Prim.Native.Nat.{ℕ, zero, suc, _+_, _*_, _/_, _%_, _<_, _≤_}
 use native.Mathlib.Omega.{arith}
-use lib.Dec.{eqb}
+use lib.Dec.{eqb, ltb}
 use lib.ListN.{getD}
-use borrow.Author.Tests.{eqb-true, eqb-false, eq-eqb, ne-eqb}
+use borrow.Author.Tests.{eqb-true, eqb-false, eq-eqb, ne-eqb, lt-ltb}
 use Rattle.laws.specs.Choice.{pick}
 use Rattle.laws.specs.Lists.{bit}
 use Rattle.laws.specs.Bounded.{get}
@@ -197,7 +197,7 @@ module _ (p : List ℕ) (c : Counts) (small : PartsSmaller p c) where
   table-code {same = same} t i a r =
       let e : entry same i ≡ rowNumber p c i = sym (get-in rows same i r) ∙ t .number small i a r in
       let d : entry same i % numbers ≡ rowNumber p c i = omega (arith, number-below i r) in
-      ap (codeFor p c (typeRow p i)) d
+      sym (yes (ltb i (c .types)) _ _ (lt-ltb i (c .types) a) refl) ∙ ap (codeFor p c (typeRow p i)) d
 
   -- ---- a side that holds a variable, seen from its code
 

@@ -4,7 +4,7 @@
 use mathlib.Core.List.{List}
 use mathlib.Core.Bool.{Bool, not, _&&_}
 use Prim.Native.Nat.{ℕ, _%_}
-use lib.Dec.{eqb}
+use lib.Dec.{eqb, ltb}
 use Rattle.laws.specs.Choice.{pick}
 use Rattle.pack.specs.Rows.{typeRow}
 use Rattle.pack.specs.Lists.{listLen}
@@ -42,9 +42,9 @@ codeFor p c r row = plainCode (r .kind) (numberOf r) (isBare p c r) (varCode (r 
 unfoldable pub codeOf : List ℕ → Counts → ℕ → ℕ
 codeOf p c i = codeFor p c (typeRow p i) (rowNumber p c i)
 
--- the same from the table
+-- the same from the table (what stands past the rows is no type: it counts as never)
 unfoldable pub codeIn : List ℕ → Counts → List ℕ → ℕ → ℕ
-codeIn p c same i = codeFor p c (typeRow p i) (entry same i % numbers)
+codeIn p c same i = pick (ltb i (c .types)) (codeFor p c (typeRow p i) (entry same i % numbers)) (code neverTag 0)
 
 -- "A side other than kind 7 to 9 that holds kind 7 to 10 anywhere in its rows": such a side is a row, and its row is marked
 unfoldable pub holdsVar : List ℕ → ℕ → Bool

@@ -51,7 +51,7 @@ fn number_at(pack: &[u8], i: u32) -> u32
     row_number(type_row(pack, i))
 }
 
-// The code of type row i, from the table of structures.
+// The code of type row i, from the table of structures; never past the rows.
 pub fn type_code(pack: &[u8], c: Counts, same: &[u32; TypeTable::CAPACITY], i: u32) -> u32
     ensures { λ r. ⌜ r ≡ codeIn (now (pack .entry)) c (now (same .entry)) i ⌝ }
 {
@@ -59,7 +59,8 @@ pub fn type_code(pack: &[u8], c: Counts, same: &[u32; TypeTable::CAPACITY], i: u
     let number = number_at(pack, i);
     let other = code_of(Tag::ROW, entry_at(same, i) % Tag::NUMBERS);
     let var = var_code(row.kind, number, other);
-    plain_code(row.kind, number, is_bare(pack, c, i), var)
+    let code = plain_code(row.kind, number, is_bare(pack, c, i), var);
+    unless(i < c.types, code_of(Tag::NEVER, 0), code)
 }
 
 // Whether a type is a row that holds a variable.

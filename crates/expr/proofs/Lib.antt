@@ -1,0 +1,11 @@
+pub mod Unmarked
+pub mod Coding
+pub mod Marking
+pub mod Kept
+pub mod Leaves
+pub mod Keeps
+pub mod Steps
+pub mod Recursions
+pub mod Given
+pub mod Meets
+pub mod Roots

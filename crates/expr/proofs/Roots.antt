@@ -1,0 +1,159 @@
+-- A root: the type table is that of the pack, what the body is given, and the way to each answer.
+--     table-is         the table that `number_rows` fills is the one that the definitions read
+--     root-given       the state in which the body is checked
+--     at-variable, at-slot, at-body     35, 34, and the body's answer
+--     tells-refused, tells-report       the contract of `check_root`, from the step and the arrays that the rule leaves
+-- Assumes nothing.
+use mathlib.Core.Path.{_≡_, refl, sym, ap, _∙_}
+use mathlib.Core.List.{List, [], _∷_, _++_}
+use mathlib.Core.Bool.{Bool, true, false, _||_}
+use Prim.Native.Nat.{ℕ, zero, suc, _+_, _*_, _<_, _≤_}
+use native.Mathlib.Nat.{zero-add}
+use native.Mathlib.Numerals.{add-one}
+use native.Mathlib.Omega.{arith}
+use lib.Dec.{ltb}
+use lib.ListN.{length, getD, replicate}
+use lib.Seq.{ext-getD}
+use borrow.Author.Tests.{ltb-true, ltb-false}
+use Rattle.laws.specs.Choice.{pick}
+use Rattle.laws.specs.Lists.{bit, gather}
+use Rattle.laws.proofs.Choice.{yes, no, lets, by-test, fails}
+use Rattle.pack.specs.Rows.{rootRow}
+use Rattle.pack.specs.Lists.{listLen, listItem}
+use Rattle.pack.specs.declared.counts.Counts.{Counts}
+use Rattle.pack.specs.declared.rows.RootRow.{RootRow}
+use Rattle.pack.specs.declared.answer.Refusal.{Refusal}
+use Rattle.unionfind.specs.Cells.{capacity, Live}
+use Rattle.unionfind.specs.Answers.{selves, Empties}
+use Rattle.structure.specs.Structure.{rows, rowNumber, holds}
+use Rattle.structure.specs.Table.{Numbers}
+use Rattle.structure.specs.Types.{codeIn}
+use Rattle.members.specs.Marks.{isMarked, anyFieldMarked}
+use Rattle.members.proofs.Counts.{any-none}
+use Rattle.slots.specs.Slots.{slots, Opening, opening, openPairs}
+use Rattle.structure.proofs.Arrays.{zeros-get}
+use Rattle.slots.proofs.Promises.{slots-none}
+use Rattle.words.specs.Notes.{nodes, codeNoted}
+use Rattle.words.proofs.Noting.{nothing-known}
+use Rattle.words.specs.Words.{wordsArea}
+use Rattle.expr.specs.State.{Env, env, State, Ans, st, ran, refuse}
+use Rattle.expr.specs.Rules.{exprRule}
+use Rattle.expr.specs.Ready.{Coded, Marked, SlotsCoded, NotesCoded, Ready, Given}
+use Rattle.expr.specs.Root.{sameOf, marksOf, depth, start, rootRule, checkedAs, written, rootAnswerIn, rootAreaIn, rootAnswer, rootArea, Checks}
+use Rattle.expr.specs.declared.answer.Step.{Step}
+use Rattle.expr.specs.declared.answer.Step.the-variants.{Done, Refused}
+use Rattle.expr.specs.declared.answer.Outcome.{Outcome}
+use Rattle.expr.specs.declared.answer.Checked.{Checked}
+use Rattle.expr.specs.declared.answer.Checked.the-variants as checked
+use Rattle.expr.proofs.Coding.{never-coded, open-pairs-ready}
+use Rattle.expr.proofs.Marking.{table-marked}
+
+neither : (a b : Bool) → (a || b) ≡ false → (a ≡ false) × (b ≡ false)
+neither true b e = absurd (fails e)
+neither false b e = (refl, e)
+
+-- ---- the table
+
+-- a list put together from one number a place
+module _ (f : ℕ → ℕ) where
+  placed-length : (n i : ℕ) → length (gather (λ k. f k ∷ []) i n) ≡ n
+  unfolding gather
+  placed-length zero i = refl
+  placed-length (suc n) i = ap suc (placed-length n (suc i))
+
+  placed-at : (n i k : ℕ) → k < n → getD (gather (λ k. f k ∷ []) i n) k 0 ≡ f (i + k)
+  unfolding gather
+  placed-at zero i k l = absurd (omega arith)
+  placed-at (suc n) i zero l = ap f (omega arith)
+  placed-at (suc n) i (suc k) l = placed-at n (suc i) k (omega arith) ∙ ap f (omega arith)
+
+  -- is any list as long that has the same numbers
+  placed : (n : ℕ) (xs : List ℕ) → length xs ≡ n → ((k : ℕ) → k < n → getD xs k 0 ≡ f k) → xs ≡ gather (λ k. f k ∷ []) 0 n
+  placed n xs l e =
+      ext-getD 0 xs (gather (λ k. f k ∷ []) 0 n) (l ∙ sym (placed-length n 0))
+      (λ k a. let b : k < n = omega (arith, l) in e k b ∙ sym (placed-at n 0 k b ∙ ap f (zero-add k)))
+
+module _ {p : List ℕ} {c : Counts} {same marks area : List ℕ} (h : Checks p c same marks area) where
+  -- what the table has for a row, and 0 past the rows
+  listed : (f : ℕ → ℕ) (xs : List ℕ) → ((k : ℕ) → k < c .types → k < rows → getD xs k 0 ≡ f k) → ((k : ℕ) → c .types ≤ k → getD xs k 0 ≡ 0)
+      → (k : ℕ) → k < rows → getD xs k 0 ≡ pick (ltb k (c .types)) (f k) 0
+  listed f xs a b k r =
+      by-test (ltb k (c .types)) (λ t. yes _ _ _ t (a k (ltb-true k (c .types) t) r)) (λ n. no _ _ _ n (b k (ltb-false k (c .types) n)))
+
+  pub same-is : same ≡ sameOf p c
+  unfolding sameOf
+  same-is = placed _ rows same (h .table .size) (listed (rowNumber p c) same (h .table .number (h .small)) (h .table .rest))
+
+  pub marks-is : marks ≡ marksOf p c
+  unfolding marksOf
+  marks-is = placed _ rows marks (h .table .sizeMarks) (listed (λ k. bit (holds p c k)) marks (h .table .mark (h .small)) (h .table .restMarks))
+
+  -- ---- the answer
+
+  tells : (root : ℕ) {r : Step} {s : State} → record { step = r; st = s } ≡ rootRule p c same marks root → {x : Checked} {after : List ℕ} → x ≡ checkedAs r → after ≡ written c r s area
+      → (x ≡ rootAnswer p c root) × (after ≡ rootArea p c root area)
+  unfolding rootAnswerIn rootAreaIn
+  tells root {r = r} {s = s} q a b =
+      let w : record { step = r; st = s } ≡ rootRule p c (sameOf p c) (marksOf p c) root = q ∙ ap (λ (l : List ℕ). rootRule p c l marks root) same-is ∙ ap (λ (l : List ℕ). rootRule p c (sameOf p c) l root) marks-is in
+      (a ∙ ap (λ (z : Ans). checkedAs (z .step)) w, b ∙ ap (λ (z : Ans). written c (z .step) (z .st) area) w)
+
+  module _ (root : ℕ) {r : Step} {cells slots notes : List ℕ} (q : ran r cells slots notes ≡ rootRule p c same marks root) where
+    pub tells-refused : {f : Refusal} → r ≡ Refused f → (checked.Refused f ≡ rootAnswer p c root) × (area ≡ rootArea p c root area)
+    tells-refused g = tells root q (sym (ap checkedAs g)) (sym (ap (λ (r : Step). written c r (st cells slots notes) area) g))
+
+    pub tells-report : {o : Outcome} → r ≡ Done o → {after : List ℕ} → after ≡ wordsArea cells notes (c .expressions) area → (checked.Report ≡ rootAnswer p c root) × (after ≡ rootArea p c root area)
+    tells-report g w = tells root q (sym (ap checkedAs g)) (w ∙ sym (ap (λ (r : Step). written c r (st cells slots notes) area) g))
+
+  marked : Marked p c same marks
+  marked = table-marked (h .table) (h .small) (h .room)
+
+  -- ---- the way to each answer
+
+  module _ (root : ℕ) {row : RootRow} (q : row ≡ rootRow p c root) {held : Bool} (m : held ≡ (isMarked marks (row .returns) || anyFieldMarked p c marks (row .list))) where
+    pub at-variable : held ≡ true → refuse 35 (row .body) (start (replicate slots 0)) ≡ rootRule p c same marks root
+    unfolding rootRule
+    at-variable t = lets _ q (yes _ _ _ (sym m ∙ t) refl)
+
+    module _ (f : held ≡ false) {ret : ℕ} (e : ret ≡ codeIn p c same (row .returns)) {xs l : List ℕ} {ok : Bool} (z : xs ≡ replicate slots 0) (o : opening ok l ≡ openPairs p c same (row .list) xs) where
+      opens : opening ok l ≡ openPairs p c same (row .list) (replicate slots 0)
+      opens = o ∙ ap (openPairs p c same (row .list)) z
+
+      pub at-slot : ok ≡ false → refuse 34 (row .body) (start l) ≡ rootRule p c same marks root
+      unfolding rootRule
+      at-slot n = lets _ q (no _ _ _ (sym m ∙ f) (lets _ e (lets _ opens (no _ _ _ n refl))))
+
+      pub at-body : ok ≡ true → {cells notes : List ℕ} → {len : ℕ} → Empties len cells → notes ≡ replicate nodes 0 → {a : Ans} → a ≡ exprRule depth (env p c same marks ret) (row .body) ret 0 (st cells l notes)
+          → a ≡ rootRule p c same marks root
+      unfolding rootRule
+      at-body t {cells = cells} {notes = notes} u v a =
+          lets _ q (no _ _ _ (sym m ∙ f) (lets _ e (lets _ opens (yes _ _ _ t
+          (a ∙ ap (λ (c1 : List ℕ). exprRule depth (env p c same marks ret) (row .body) ret 0 (st c1 l notes)) (u .cells)
+          ∙ ap (λ (w : List ℕ). exprRule depth (env p c same marks ret) (row .body) ret 0 (st (selves 0 capacity) l w)) v)))))
+
+      -- ---- what the body is given
+
+      pub ret-coded : Coded 0 ret
+      ret-coded = rw e (marked .each (row .returns) (neither (isMarked marks (row .returns)) _ (sym m ∙ f) .0) 0)
+
+      -- no slot is bound and no node seen
+      empty-ready : {cells notes : List ℕ} → {len : ℕ} → Empties len cells → notes ≡ replicate nodes 0 → Ready 0 (st cells (replicate slots 0) notes)
+      unfolding codeNoted
+      empty-ready u v =
+          record {
+            live = u .live;
+            slots = record { each = slots-none (Coded 0) (never-coded 0) };
+            notes = record { each = λ i. rw (v, zeros-get nodes i) (never-coded 0) };
+          }
+
+      pub root-given : {cells notes : List ℕ} → {len : ℕ} → Empties len cells → notes ≡ replicate nodes 0 → Given (env p c same marks ret) 0 (st cells l notes)
+      unfolding anyFieldMarked
+      root-given {cells = cells} {notes = notes} u v =
+          record {
+            ready =
+                rw (ap (λ (z : Opening). z .slots) opens)
+                (open-pairs-ready p c same (row .list)
+                (λ k a. marked .each (listItem p c (row .list) (2 * k + 1)) (any-none _ _ (neither (isMarked marks (row .returns)) _ (sym m ∙ f) .1) k a) 0)
+                (empty-ready u v));
+            returns = ret-coded;
+            marked = marked;
+          }

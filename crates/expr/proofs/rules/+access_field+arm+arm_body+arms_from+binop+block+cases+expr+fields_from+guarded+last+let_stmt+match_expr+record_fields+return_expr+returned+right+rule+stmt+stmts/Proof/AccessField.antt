@@ -1,0 +1,66 @@
+-- The answers of `access_field`.
+use Prim.Native.Nat.{ℕ}
+use Rattle.expr.proofs.answer.refuse.Reads as refuse-reads
+use Rattle.expr.proofs.types.field_type.Reads as field-type-reads
+use Rattle.expr.proofs.types.fresh_type.Reads as fresh-type-reads
+use Rattle.members.proofs.accessed.Reads as accessed-reads
+use Rattle.unify.proofs.resolve_type.Reads as resolve-type-reads
+use Rattle.expr.proofs.rules.access_field.Reads as access-field
+use Rattle.expr.proofs.rules.expr.Reads as expr
+use Rattle.expr.proofs.rules.+access_field+arm+arm_body+arms_from+binop+block+cases+expr+fields_from+guarded+last+let_stmt+match_expr+record_fields+return_expr+returned+right+rule+stmt+stmts.Lts-access_field as access-field-lts
+use Rattle.expr.proofs.rules.+access_field+arm+arm_body+arms_from+binop+block+cases+expr+fields_from+guarded+last+let_stmt+match_expr+record_fields+return_expr+returned+right+rule+stmt+stmts.Proof.Common.{access-field-at, expr-below}
+use mathlib.Core.Path.{sym, _∙_}
+use borrow.Author.Needs.{needs}
+use Rattle.laws.proofs.Choice.{lets}
+use Rattle.expr.specs.Rules.{fieldRule, accessedRule}
+use Rattle.expr.proofs.Steps.{goes, stops, typed-as, typed-none, resolves-to, is}
+use Rattle.expr.proofs.Kept.{after, after-type, coded-more}
+use Rattle.expr.proofs.Meets.{meets-field}
+use Rattle.expr.proofs.Keeps.{given-after, given-after-type}
+use Rattle.expr.proofs.Given.{given-settled, given-accessed}
+
+abbrev claims : ℕ → access-field-lts.Claims
+claims t = (
+  fresh-type-reads.Asked,
+  fresh-type-reads.Learnt,
+  expr-below t,
+  expr.Post,
+  resolve-type-reads.Asked,
+  resolve-type-reads.Learnt,
+  accessed-reads.Asked,
+  accessed-reads.Learnt,
+  refuse-reads.Asked,
+  refuse-reads.Learnt,
+  field-type-reads.Asked,
+  field-type-reads.Learnt,
+)
+
+module _ (t : ℕ) where
+  fresh-type-requires : access-field-lts.Need-fresh-type-requires (claims t) (access-field-at t) access-field.Post
+  fresh-type-requires c κs = (c .before .before .pre .1 .0) .ready .live
+
+  expr-requires : access-field-lts.Need-expr-requires (claims t) (access-field-at t) access-field.Post
+  expr-requires c κs = (search needs, ((given-after-type (c .before .before .before .before .before .before .before .before .before .pre .1 .0) (c .before .before .before .before .before .before .fresh-type .ensures .ran _ _ ((c .before .before .before .before .before .before .before .before .before .pre .1 .0) .ready)) (c .before .before .before .before .code .given .1)), (after-type (c .before .before .before .before .before .before .fresh-type .ensures .ran _ _ ((c .before .before .before .before .before .before .before .before .before .pre .1 .0) .ready)) (c .before .before .before .before .code .given .1) .1 .1)))
+
+  resolve-type-requires : access-field-lts.Need-resolve-type-requires (claims t) (access-field-at t) access-field.Post
+  resolve-type-requires c κs = ((given-after (given-after-type (c .before .before .before .before .before .before .before .before .before .before .before .before .before .before .pre .1 .0) (c .before .before .before .before .before .before .before .before .before .before .before .fresh-type .ensures .ran _ _ ((c .before .before .before .before .before .before .before .before .before .before .before .before .before .before .pre .1 .0) .ready)) (c .before .before .before .before .before .before .before .before .before .code .given .1)) (c .before .before .before .before .expr .ensures) (c .before .before .o .given .1)) .ready .live, (coded-more (after (c .before .before .before .before .expr .ensures) (c .before .before .o .given .1) .0) (after-type (c .before .before .before .before .before .before .before .before .before .before .before .fresh-type .ensures .ran _ _ ((c .before .before .before .before .before .before .before .before .before .before .before .before .before .before .pre .1 .0) .ready)) (c .before .before .before .before .before .before .before .before .before .code .given .1) .1 .1)) .known)
+
+  field-type-requires : access-field-lts.Need-field-type-requires (claims t) (access-field-at t) access-field.Post
+  field-type-requires c κs = ((given-settled (given-after (given-after-type (c .before .before .before .before .before .before .before .before .before .before .before .before .before .before .before .before .before .before .before .before .pre .1 .0) (c .before .before .before .before .before .before .before .before .before .before .before .before .before .before .before .before .before .fresh-type .ensures .ran _ _ ((c .before .before .before .before .before .before .before .before .before .before .before .before .before .before .before .before .before .before .before .before .pre .1 .0) .ready)) (c .before .before .before .before .before .before .before .before .before .before .before .before .before .before .before .code .given .1)) (c .before .before .before .before .before .before .before .before .before .before .expr .ensures) (c .before .before .before .before .before .before .before .before .o .given .1)) (c .before .before .before .before .before .resolve-type .ensures)) .ready .live, ((coded-more (after (c .before .before .before .before .before .before .before .before .before .before .expr .ensures) (c .before .before .before .before .before .before .before .before .o .given .1) .0) (coded-more (after-type (c .before .before .before .before .before .before .before .before .before .before .before .before .before .before .before .before .before .fresh-type .ensures .ran _ _ ((c .before .before .before .before .before .before .before .before .before .before .before .before .before .before .before .before .before .before .before .before .pre .1 .0) .ready)) (c .before .before .before .before .before .before .before .before .before .before .before .before .before .before .before .code .given .1) .0) (c .before .before .before .before .before .before .before .before .before .before .before .before .before .before .before .before .before .before .before .before .pre .1 .1))), given-accessed (c .before .before .before .before .before .before .before .before .before .before .before .before .before .before .before .before .before .before .before .before .pre .1 .0) _ _ (c .before .before .before .before .accessed .ensures) (c .before .before .t .given .1) _))
+
+  returns : access-field-lts.Need-returns (claims t) (access-field-at t) access-field.Post
+  returns c = meets-field (c .before .before .before .before .before .before .pre .1 .0) _ (c .before .before .before .before .before .before .pre .1 .1) _ (c .before .before .before .before .before .before .args .n) (unfold fieldRule in typed-none _ ((c .before .before .before .fresh-type .ensures .ran _ _ ((c .before .before .before .before .before .before .pre .1 .0) .ready)) .same) (c .before .f .given .1))
+
+  returns-2 : access-field-lts.Need-returns-2 (claims t) (access-field-at t) access-field.Post
+  returns-2 c = meets-field (c .before .before .before .before .before .before .before .before .before .before .before .before .before .pre .1 .0) _ (c .before .before .before .before .before .before .before .before .before .before .before .before .before .pre .1 .1) _ (c .before .before .before .before .before .before .before .before .before .before .before .before .before .args .n) (unfold fieldRule in typed-as _ ((c .before .before .before .before .before .before .before .before .before .before .fresh-type .ensures .ran _ _ ((c .before .before .before .before .before .before .before .before .before .before .before .before .before .pre .1 .0) .ready)) .same) (c .before .before .before .before .before .before .before .before .code .given .1) (stops _ (c .before .before .before .expr .ensures .same) (c .before .f2 .given .1)))
+
+  returns-3 : access-field-lts.Need-returns-3 (claims t) (access-field-at t) access-field.Post
+  returns-3 c = meets-field (c .before .before .before .before .before .before .before .before .before .before .before .before .before .before .before .before .before .before .before .before .pre .1 .0) _ (c .before .before .before .before .before .before .before .before .before .before .before .before .before .before .before .before .before .before .before .before .pre .1 .1) _ (c .before .before .before .before .before .before .before .before .before .before .before .before .before .before .before .before .before .before .before .before .args .n) (unfold fieldRule in typed-as _ ((c .before .before .before .before .before .before .before .before .before .before .before .before .before .before .before .before .before .fresh-type .ensures .ran _ _ ((c .before .before .before .before .before .before .before .before .before .before .before .before .before .before .before .before .before .before .before .before .pre .1 .0) .ready)) .same) (c .before .before .before .before .before .before .before .before .before .before .before .before .before .before .before .code .given .1) (goes _ (c .before .before .before .before .before .before .before .before .before .before .expr .ensures .same) (c .before .before .before .before .before .before .before .before .o .given .1) (resolves-to _ (c .before .before .before .before .before .resolve-type .ensures) (lets (accessedRule _ _ _ _ _ _) (sym (c .before .before .number .given .1) ∙ c .before .before .before .before .accessed .ensures) (is (c .refuse .ensures))))))
+
+  returns-4 : access-field-lts.Need-returns-4 (claims t) (access-field-at t) access-field.Post
+  returns-4 c = meets-field (c .before .before .before .before .before .before .before .before .before .before .before .before .before .before .before .before .before .before .before .before .before .pre .1 .0) _ (c .before .before .before .before .before .before .before .before .before .before .before .before .before .before .before .before .before .before .before .before .before .pre .1 .1) _ (c .before .before .before .before .before .before .before .before .before .before .before .before .before .before .before .before .before .before .before .before .before .args .n) (unfold fieldRule in typed-as _ ((c .before .before .before .before .before .before .before .before .before .before .before .before .before .before .before .before .before .before .fresh-type .ensures .ran _ _ ((c .before .before .before .before .before .before .before .before .before .before .before .before .before .before .before .before .before .before .before .before .before .pre .1 .0) .ready)) .same) (c .before .before .before .before .before .before .before .before .before .before .before .before .before .before .before .before .code .given .1) (goes _ (c .before .before .before .before .before .before .before .before .before .before .before .expr .ensures .same) (c .before .before .before .before .before .before .before .before .before .o .given .1) (resolves-to _ (c .before .before .before .before .before .before .resolve-type .ensures) (lets (accessedRule _ _ _ _ _ _) (sym (c .before .before .before .t .given .1) ∙ c .before .before .before .before .before .accessed .ensures) (c .field-type .ensures .ran _ _ ((given-settled (given-after (given-after-type (c .before .before .before .before .before .before .before .before .before .before .before .before .before .before .before .before .before .before .before .before .before .pre .1 .0) (c .before .before .before .before .before .before .before .before .before .before .before .before .before .before .before .before .before .before .fresh-type .ensures .ran _ _ ((c .before .before .before .before .before .before .before .before .before .before .before .before .before .before .before .before .before .before .before .before .before .pre .1 .0) .ready)) (c .before .before .before .before .before .before .before .before .before .before .before .before .before .before .before .before .code .given .1)) (c .before .before .before .before .before .before .before .before .before .before .before .expr .ensures) (c .before .before .before .before .before .before .before .before .before .o .given .1)) (c .before .before .before .before .before .before .resolve-type .ensures)) .ready) .same)))))
+
+  pub access-field-closed : {M : Type 1} → access-field-lts.Closed (claims t) (access-field-at t) access-field.Post M
+  access-field-closed =
+      access-field-lts.spec (claims t) (access-field-at t) access-field.Post
+      fresh-type-requires (λ c. search needs) (λ c. search needs) expr-requires (λ c. search needs) (λ c. search needs) resolve-type-requires (λ c κs. search needs) (λ c. search needs) (λ c κs. search needs) (λ c. search needs) field-type-requires returns returns-2 returns-3 returns-4

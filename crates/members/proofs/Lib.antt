@@ -1,0 +1,6 @@
+pub mod Counting
+pub mod Counts
+pub mod Finding
+pub mod Noting
+pub mod Promises
+mod Worked

@@ -1,0 +1,13 @@
+-- `is_covered`: by the marks of `_` and of the name, or what is no name by the arms themselves.
+use mathlib.Core.Path.{_∙_}
+use Rattle.members.proofs.Noting.{noted-is, covered-told}
+use borrow.Author.Needs.{needs}
+use native.Mathlib.Omega.{arith}
+use Rattle.members.proofs.arms.is_covered.Statement.{statement}
+use Rattle.members.proofs.arms.is_covered.Tie as tie
+
+returns : tie.Need-returns
+returns c = covered-told _ _ _ _ (c .either .ensures) (c .before .before .is-noted .ensures ∙ noted-is _ _ _ _ (c .before .before .before .before .before .pre) (omega arith)) (c .before .is-noted2 .ensures ∙ noted-is _ _ _ _ (c .before .before .before .before .before .pre) (c .before .before .before .if1 .taken))
+
+pub is-covered-spec : {M : Type 1} → statement M
+is-covered-spec = tie.close (tie.spec (λ c. search needs) (λ c. search needs) (λ c. search needs) (λ c. search needs) returns (λ c. search needs))

@@ -1,0 +1,18 @@
+-- `is_list`: the kind of the definition, if there is one.
+use mathlib.Core.Path.{refl}
+use Rattle.members.specs.Types.{isList}
+use Rattle.members.proofs.Counting.{stored-none, stored-some}
+use borrow.Author.Needs.{needs}
+use Rattle.members.proofs.types.is_list.Statement.{statement}
+use Rattle.members.proofs.types.is_list.Tie as tie
+
+returns : tie.Need-returns
+unfolding isList
+returns c = stored-none _ _ _ (c .before .named .ensures) (c .if1 .taken) refl
+
+returns-2 : tie.Need-returns-2
+unfolding isList
+returns-2 c = stored-some _ _ _ (c .before .before .before .named .ensures) (c .before .before .if1 .left) cc
+
+pub is-list-spec : {M : Type 1} → statement M
+is-list-spec = tie.close (tie.spec (λ c. search needs) (λ c. search needs) (λ c. search needs) returns returns-2)

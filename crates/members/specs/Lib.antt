@@ -1,0 +1,8 @@
+pub mod Places
+pub mod Types
+pub mod Lookup
+pub mod Names
+pub mod Marks
+pub mod Match
+pub mod Record
+pub mod Field

@@ -1,0 +1,4 @@
+pub mod Noting
+pub mod Fields
+pub mod Writing
+pub mod Promises
