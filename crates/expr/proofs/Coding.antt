@@ -26,7 +26,7 @@ use Rattle.members.specs.declared.answer.Accessed.the-variants as accessed
 use Rattle.slots.specs.Slots.{opened, Opening, openList, openPairs, closeList, closeLets}
 use Rattle.slots.proofs.Stores.{put-all}
 use Rattle.slots.proofs.Promises.{opened-all, open-list-all, open-pairs-all, close-list-all, close-lets-all}
-use Rattle.words.specs.Notes.{noteOf, codeNoted}
+use Rattle.words.specs.Notes.{nodes, noteOf, codeNoted}
 use Rattle.words.proofs.Noting.{code-noted}
 use Rattle.expr.specs.State.{Env, State, st, withSlots, withNotes}
 use Rattle.expr.specs.Rules.{unitCode, definitionCode, literalCode, recorded, sealed, payloadOpens, payloadCloses, lastCode}
@@ -83,9 +83,9 @@ module _ {vars : ℕ} where
   unfolding codeNoted
   none-noted = never-coded vars
 
-  note-put : (notes : List ℕ) (id : ℕ) (d : Bool) (call x : ℕ) → NotesCoded vars notes → Coded vars x → NotesCoded vars (put 4096 notes id (noteOf d call x))
+  note-put : (notes : List ℕ) (id : ℕ) (d : Bool) (call x : ℕ) → NotesCoded vars notes → Coded vars x → NotesCoded vars (put nodes notes id (noteOf d call x))
   note-put notes id d call x h k =
-      record { each = put-all (λ w. Coded vars (codeNoted w)) none-noted 4096 notes id (noteOf d call x) (rw (code-noted d call x (k .small)) k) (h .each) }
+      record { each = put-all (λ w. Coded vars (codeNoted w)) none-noted nodes notes id (noteOf d call x) (rw (code-noted d call x (k .small)) k) (h .each) }
 
   recorded-coded : {notes : List ℕ} (id x : ℕ) → NotesCoded vars notes → Coded vars x → NotesCoded vars (recorded notes id x)
   unfolding recorded
@@ -93,7 +93,7 @@ module _ {vars : ℕ} where
 
   sealed-coded : {notes : List ℕ} (id : ℕ) (d : Bool) (call : ℕ) → NotesCoded vars notes → NotesCoded vars (sealed notes id d call)
   unfolding sealed
-  sealed-coded {notes = notes} id d call h = note-put notes id d call (codeNoted (get 4096 notes id)) h (h .each id)
+  sealed-coded {notes = notes} id d call h = note-put notes id d call (codeNoted (get nodes notes id)) h (h .each id)
 
   pub last-coded : {notes : List ℕ} (b : ℕ) → NotesCoded vars notes → Coded vars (lastCode notes b)
   unfolding lastCode

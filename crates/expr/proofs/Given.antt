@@ -29,8 +29,8 @@ use Rattle.members.specs.Field.{accessedBy}
 use Rattle.members.specs.declared.answer.Fault.{Fault}
 use Rattle.members.specs.declared.answer.Accessed.{Accessed}
 use Rattle.members.specs.declared.answer.Accessed.the-variants as accessed
-use Rattle.slots.specs.Slots.{Opening, opening}
-use Rattle.words.specs.Notes.{codeNoted}
+use Rattle.slots.specs.Slots.{slots, Opening, opening}
+use Rattle.words.specs.Notes.{nodes, codeNoted}
 use Rattle.expr.specs.State.{Env, State, st}
 use Rattle.expr.specs.Rules.{recorded, payloadOpens}
 use Rattle.expr.specs.Ready.{Coded, Ready, Given, Fielded}
@@ -47,8 +47,8 @@ unfolding codeNoted
 cells-ready {vars = vars} l =
     record {
       live = l;
-      slots = record { each = λ i. rw (get-none 256 i) (never-coded vars) };
-      notes = record { each = λ i. rw (get-none 4096 i) (never-coded vars) };
+      slots = record { each = λ i. rw (get-none slots i) (never-coded vars) };
+      notes = record { each = λ i. rw (get-none nodes i) (never-coded vars) };
     }
 
 settled-ready : {vars x r : ℕ} {c d s w : List ℕ} → Ready vars (st c s w) → Resolves vars c x r d → Ready vars (st d s w)

@@ -11,7 +11,8 @@ use Rattle.unionfind.specs.Cells.{Knows, Live}
 use Rattle.structure.specs.Types.{codeIn}
 use Rattle.members.specs.Lookup.{memberOf}
 use Rattle.members.specs.Marks.{isMarked}
-use Rattle.words.specs.Notes.{codes, codeNoted}
+use Rattle.slots.specs.Slots.{slots as slotCount}
+use Rattle.words.specs.Notes.{nodes, codes, codeNoted}
 use Rattle.expr.specs.State.{Env, State, Ans, Typing, st, ran, typedAs}
 use Rattle.expr.specs.declared.answer.Step.{Step}
 use Rattle.expr.specs.declared.answer.Step.the-variants.{Done, Refused}
@@ -24,10 +25,10 @@ pub record Coded (n x : ℕ) : Type 0 where
   pub known : Knows n x
 
 pub record SlotsCoded (vars : ℕ) (slots : List ℕ) : Type 0 where
-  pub each : (i : ℕ) → Coded vars (get 256 slots i - 2)
+  pub each : (i : ℕ) → Coded vars (get slotCount slots i - 2)
 
 pub record NotesCoded (vars : ℕ) (notes : List ℕ) : Type 0 where
-  pub each : (i : ℕ) → Coded vars (codeNoted (get 4096 notes i))
+  pub each : (i : ℕ) → Coded vars (codeNoted (get nodes notes i))
 
 pub record Ready (vars : ℕ) (s : State) : Type 0 where
   pub live : Live vars (s .cells)

@@ -26,8 +26,8 @@ use Rattle.members.specs.declared.answer.Subject.{Subject}
 use Rattle.members.specs.declared.answer.Subject.the-variants as subject
 use Rattle.members.specs.declared.answer.Accessed.{Accessed}
 use Rattle.members.specs.declared.answer.Accessed.the-variants as accessed
-use Rattle.slots.specs.Slots.{unbound, opened, Opening, openList, closeList, closeLets}
-use Rattle.words.specs.Notes.{noteOf, codeNoted}
+use Rattle.slots.specs.Slots.{slots as slotCount, unbound, opened, Opening, openList, closeList, closeLets}
+use Rattle.words.specs.Notes.{nodes, noteOf, codeNoted}
 use Rattle.expr.specs.State.{Env, State, Ans, Typing, withSlots, withNotes, done, refuse, refuseWith, _then_, _gives_, resolving, freshType, unifyStep}
 use Rattle.expr.specs.declared.answer.Step.the-variants.{Done}
 use Rattle.expr.specs.declared.answer.Typed.the-variants as typed
@@ -53,11 +53,11 @@ literalCode op = pick (eqb op 7) unitCode (code primitiveTag (op % numbers))
 
 -- the type that a node records
 unfoldable pub recorded : List ℕ → ℕ → ℕ → List ℕ
-recorded notes id x = put 4096 notes id (noteOf false 0 x)
+recorded notes id x = put nodes notes id (noteOf false 0 x)
 
 -- the node is accepted: its note has its diverges bit and its call as well
 unfoldable pub sealed : List ℕ → ℕ → Bool → ℕ → List ℕ
-sealed notes id diverges call = put 4096 notes id (noteOf diverges call (codeNoted (get 4096 notes id)))
+sealed notes id diverges call = put nodes notes id (noteOf diverges call (codeNoted (get nodes notes id)))
 
 -- ---- "Literal and slot: unify expected with own type."
 
@@ -74,7 +74,7 @@ literalRule marks id n want vars s =
 -- "33: slot not open"; a slot holds 0 (never bound), 1 (closed) or 2 + code
 unfoldable pub slotRule : List ℕ → ℕ → ExpressionRow → ℕ → ℕ → State → Ans
 slotRule marks id n want vars s =
-    letting (get 256 (s .slots) (n .a)) λ x.
+    letting (get slotCount (s .slots) (n .a)) λ x.
     pick (leb 2 x) (unifyStep marks id want (x - 2) vars s) (refuse 33 id s)
 
 -- ---- "Let: 35, value, then its slot opens to the block's end."
@@ -125,7 +125,7 @@ lastRule run e id (suc l) want d vars s = run l want vars s
 -- "a block [records] its last expression's, or unit"
 unfoldable pub lastCode : List ℕ → ℕ → ℕ
 lastCode notes zero = unitCode
-lastCode notes (suc l) = codeNoted (get 4096 notes l)
+lastCode notes (suc l) = codeNoted (get nodes notes l)
 
 unfoldable pub blockRule : Run → Env → ℕ → ExpressionRow → ℕ → ℕ → State → Ans
 blockRule run e id n want vars s =
