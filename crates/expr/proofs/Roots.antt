@@ -5,11 +5,10 @@
 --     tells-refused, tells-report       the contract of `check_root`, from the step and the arrays that the rule leaves
 -- Assumes nothing.
 use mathlib.Core.Path.{_≡_, refl, sym, ap, _∙_}
-use mathlib.Core.List.{List, [], _∷_, _++_}
+use mathlib.Core.List.{List, [], _∷_}
 use mathlib.Core.Bool.{Bool, true, false, _||_}
 use Prim.Native.Nat.{ℕ, zero, suc, _+_, _*_, _<_, _≤_}
 use native.Mathlib.Nat.{zero-add}
-use native.Mathlib.Numerals.{add-one}
 use native.Mathlib.Omega.{arith}
 use lib.Dec.{ltb}
 use lib.ListN.{length, getD, replicate}
@@ -19,14 +18,13 @@ use Rattle.laws.specs.Choice.{pick}
 use Rattle.laws.specs.Lists.{bit, gather}
 use Rattle.laws.proofs.Choice.{yes, no, lets, by-test, fails}
 use Rattle.pack.specs.Rows.{rootRow}
-use Rattle.pack.specs.Lists.{listLen, listItem}
+use Rattle.pack.specs.Lists.{listItem}
 use Rattle.pack.specs.declared.counts.Counts.{Counts}
 use Rattle.pack.specs.declared.rows.RootRow.{RootRow}
 use Rattle.pack.specs.declared.answer.Refusal.{Refusal}
-use Rattle.unionfind.specs.Cells.{capacity, Live}
+use Rattle.unionfind.specs.Cells.{capacity}
 use Rattle.unionfind.specs.Answers.{selves, Empties}
 use Rattle.structure.specs.Structure.{rows, rowNumber, holds}
-use Rattle.structure.specs.Table.{Numbers}
 use Rattle.structure.specs.Types.{codeIn}
 use Rattle.members.specs.Marks.{isMarked, anyFieldMarked}
 use Rattle.members.proofs.Counts.{any-none}
@@ -34,11 +32,10 @@ use Rattle.slots.specs.Slots.{slots, Opening, opening, openPairs}
 use Rattle.structure.proofs.Arrays.{zeros-get}
 use Rattle.slots.proofs.Promises.{slots-none}
 use Rattle.words.specs.Notes.{nodes, codeNoted}
-use Rattle.words.proofs.Noting.{nothing-known}
 use Rattle.words.specs.Words.{wordsArea}
-use Rattle.expr.specs.State.{Env, env, State, Ans, st, ran, refuse}
+use Rattle.expr.specs.State.{env, State, Ans, st, ran, refuse}
 use Rattle.expr.specs.Rules.{exprRule}
-use Rattle.expr.specs.Ready.{Coded, Marked, SlotsCoded, NotesCoded, Ready, Given}
+use Rattle.expr.specs.Ready.{Coded, Marked, Ready, Given}
 use Rattle.expr.specs.Root.{sameOf, marksOf, depth, start, rootRule, checkedAs, written, rootAnswerIn, rootAreaIn, rootAnswer, rootArea, Checks}
 use Rattle.expr.specs.declared.answer.Step.{Step}
 use Rattle.expr.specs.declared.answer.Step.the-variants.{Done, Refused}

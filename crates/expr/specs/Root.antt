@@ -14,10 +14,10 @@ use Rattle.structure.specs.Structure.{rows, PartsSmaller, rowNumber, holds}
 use Rattle.structure.specs.Table.{Numbers}
 use Rattle.structure.specs.Types.{codeIn}
 use Rattle.members.specs.Marks.{isMarked, anyFieldMarked}
-use Rattle.slots.specs.Slots.{slots, Opening, openPairs}
+use Rattle.slots.specs.Slots.{slots, openPairs}
 use Rattle.words.specs.Notes.{nodes}
 use Rattle.words.specs.Words.{wordsArea}
-use Rattle.expr.specs.State.{Env, env, State, Ans, st, refuse}
+use Rattle.expr.specs.State.{env, State, Ans, st, refuse}
 use Rattle.expr.specs.Rules.{exprRule}
 use Rattle.expr.specs.declared.answer.Step.{Step}
 use Rattle.expr.specs.declared.answer.Step.the-variants.{Done, Refused}

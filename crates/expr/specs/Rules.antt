@@ -2,10 +2,10 @@
 -- One rule a kind of node, its tests in document 01's order. A rule is given the checker of its parts (`Run`), so that `exprRule` alone
 -- recurses, on the depth left. `want` is the expected type's code; `vars` variables are in use.
 use Prim.Native.Nat.{ℕ, zero, suc, _+_, _-_, _*_, _%_}
-use lib.Dec.{eqb, ltb, leb}
+use lib.Dec.{eqb, leb}
 use mathlib.Core.Bool.{Bool, true, false, _&&_, _||_}
-use mathlib.Core.List.{List, [], _∷_}
-use Rattle.laws.specs.Choice.{pick, letting, byKind}
+use mathlib.Core.List.{List}
+use Rattle.laws.specs.Choice.{pick, letting}
 use Rattle.laws.specs.Bounded.{get, put}
 use Rattle.pack.specs.Lists.{listLen, listItem}
 use Rattle.pack.specs.Rows.{definitionRow, expressionRow}

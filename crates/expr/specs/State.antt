@@ -3,7 +3,6 @@ use Prim.Native.Nat.{ℕ, _+_}
 use mathlib.Core.List.{List}
 use mathlib.Core.Bool.{Bool, false}
 use Rattle.pack.specs.declared.counts.Counts.{Counts}
-use Rattle.pack.specs.declared.answer.Refusal.{Refusal}
 use Rattle.unionfind.specs.Answers.{freshAnswer, freshCells}
 use Rattle.unionfind.specs.declared.codes.Kind.{Kind}
 use Rattle.unionfind.specs.declared.answer.Made.{Made}

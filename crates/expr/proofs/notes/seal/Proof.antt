@@ -1,5 +1,4 @@
 -- `seal`: the code that was noted, with the node's diverges bit and call.
-use mathlib.Core.Path.{_∙_}
 use Rattle.expr.specs.Rules.{sealed}
 use borrow.Author.Needs.{needs}
 use Rattle.expr.proofs.notes.seal.Statement.{statement}
