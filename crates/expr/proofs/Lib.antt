@@ -9,3 +9,13 @@ pub mod Recursions
 pub mod Given
 pub mod Meets
 pub mod Roots
+pub mod Numbers
+pub mod Walk
+pub mod Nodes
+pub mod WalkLeaves
+pub mod Walks
+pub mod Depth
+pub mod Trees
+pub mod Visits
+pub mod Reports
+pub mod Apart
