@@ -1,11 +1,11 @@
 // Writing the bytes of a pack, as many as there is room for.
 use crate::rising::can_rise;
 use crate::rising::put_rising;
-use crate::words::decimal;
-use crate::words::digit;
-use crate::words::find;
-use crate::words::is_hex;
-use crate::words::is_number;
+use crate::tokens::decimal;
+use crate::tokens::digit;
+use crate::tokens::find;
+use crate::tokens::is_hex;
+use crate::tokens::is_number;
 
 // How many bytes the pack has after a word, or that the word is not one of bytes.
 pub enum Grown {

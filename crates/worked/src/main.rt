@@ -7,11 +7,14 @@
 //     HEX               an even number of the digits 0 to 9 and A to F: these bytes come next in the pack
 //     N*HEX             the same bytes, N times
 //     N*HEX+STEP        at most 16 bytes and as many of a step: N times, each time by the step more, as one number
+//     room N            the first N bytes of the result area are lent to the entry, and not all of it
 //     area              the bytes from here to the next case are not the pack's: the result area has to begin with them
 //     formed N P D      `formed` refuses the pack with number N, place P and detail D; 0 0 0: the pack is well-formed
-//     order N P D       the pack, or the order of its values, is refused so; 0 0 0: the values are listed
+//     types N P D       the types entry answers so; 0 0 0 is a report
+//     root R N P D      the root entry answers so for root R
+//     order N P D       the order entry answers so
 //
-// After `order` the result area holds the bytes of `area`, if there are any, and past them what it held before.
+// After `root` and `order` the result area holds the bytes of `area`, if there are any, and past them what it held before.
 //
 // It writes a line for each group, and a last one with the sums. An answer that differs, and a word that is none of
 // these, has a line of its own before them, with its line in the text.
@@ -22,7 +25,7 @@ mod report;
 mod rising;
 mod run;
 mod state;
-mod words;
+mod tokens;
 
 use crate::report::too_long;
 use crate::run::run_all;

@@ -1,6 +1,6 @@
 // What the program writes.
 use crate::answers::Answer;
-use crate::words::line_of;
+use crate::tokens::line_of;
 use libc::STDOUT_FILENO;
 
 fn say(text: &[u8]) {

@@ -2,7 +2,7 @@
 ghost use Prim.Native.Nat.{_<_};
 use crate::build::put;
 use crate::build::put_hex;
-use crate::words::is_hex;
+use crate::tokens::is_hex;
 
 // The most bytes of a row that rises.
 const MAX_ROW: usize = 16;

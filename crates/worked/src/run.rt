@@ -4,7 +4,8 @@ ghost use lib.ListN.{length};
 use crate::answers::Answer;
 use crate::asks::AREA;
 use crate::asks::hold_formed;
-use crate::asks::hold_order;
+use crate::asks::hold_types;
+use crate::asks::hold_written;
 use crate::build::Grown;
 use crate::build::put_word;
 use crate::report::group_sums;
@@ -17,9 +18,13 @@ use crate::state::NAME;
 use crate::state::NUMBER;
 use crate::state::ORDER;
 use crate::state::PLACE;
+use crate::state::ROOM_SIZE;
+use crate::state::ROOT_NUMBER;
 use crate::state::Run;
+use crate::state::TYPES;
 use crate::state::WORD;
 use crate::state::asking;
+use crate::state::asking_root;
 use crate::state::begun;
 use crate::state::named;
 use crate::state::one_asked;
@@ -28,12 +33,12 @@ use crate::state::with_area;
 use crate::state::with_listed;
 use crate::state::with_next;
 use crate::state::with_size;
-use crate::words::Word;
-use crate::words::decimal;
-use crate::words::is_number;
-use crate::words::meaning;
-use crate::words::word_end;
-use crate::words::word_start;
+use crate::tokens::Word;
+use crate::tokens::decimal;
+use crate::tokens::is_number;
+use crate::tokens::meaning;
+use crate::tokens::word_end;
+use crate::tokens::word_start;
 
 // A byte more than the longest pack that a case may have, which is a byte longer than the longest that can be read.
 const ROOM: usize = 65538;
@@ -60,6 +65,7 @@ fn new_case(text: &[u8], at: usize, run: Run) -> Run {
     r.asked = false;
     r.in_area = false;
     r.listed = 0;
+    r.room = u64::MAX;
     r
 }
 
@@ -137,10 +143,30 @@ fn plain_word(
         Word::Group => with_next(end_group(text, at, run), NAME),
         Word::Case => new_case(text, at, run),
         Word::Area => with_area(run),
+        Word::Room => with_next(run, ROOM_SIZE),
         Word::Formed => asking(run, FORMED),
+        Word::Types => asking(run, TYPES),
+        Word::Root => asking_root(run),
         Word::Order => asking(run, ORDER),
         Word::Other => bytes(text, at, word, pack, listing, run),
     }
+}
+
+// The number of the root that is asked for, or how much of the area is lent.
+fn number_of(text: &[u8], at: usize, word: &[u8], run: Run) -> Run {
+    let n = decimal(word);
+    let mut r = run;
+    if is_number(word, 10) {
+        if run.next == ROOT_NUMBER {
+            r.root = n;
+            r.next = NUMBER;
+            return r;
+        }
+        r.room = n;
+        r.next = WORD;
+        return r;
+    }
+    fault(text, at, run)
 }
 
 // One of the three numbers that are wanted.
@@ -177,10 +203,11 @@ fn ask(text: &[u8], at: usize, pack: &[u8], listing: &[u8], detail: u64, run: Ru
         place: run.place,
         detail: detail,
     };
-    if run.asks == ORDER {
-        hold_order(text, at, &pack[0..size], listing, wanted, one_asked(run))
-    } else {
-        hold_formed(text, at, &pack[0..size], wanted, one_asked(run))
+    let asks = run.asks;
+    match asks {
+        FORMED => hold_formed(text, at, &pack[0..size], wanted, one_asked(run)),
+        TYPES => hold_types(text, at, &pack[0..size], wanted, one_asked(run)),
+        _ => hold_written(text, at, &pack[0..size], listing, wanted, one_asked(run)),
     }
 }
 
@@ -193,6 +220,8 @@ fn take(text: &[u8], at: usize, end: usize, pack: &mut [u8], listing: &mut [u8],
     match next {
         WORD => plain_word(text, at, word, pack, listing, run),
         NAME => named(at, end, run),
+        ROOT_NUMBER => number_of(text, at, word, run),
+        ROOM_SIZE => number_of(text, at, word, run),
         _ => wanted(text, at, word, pack, listing, run),
     }
 }

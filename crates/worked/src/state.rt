@@ -1,5 +1,5 @@
 // How far the text has been run, as a value that each word changes.
-use crate::words::one_more;
+use crate::tokens::one_more;
 
 // What the next word is.
 pub const WORD: u32 = 0;
@@ -12,10 +12,18 @@ pub const PLACE: u32 = 3;
 
 pub const DETAIL: u32 = 4;
 
+pub const ROOT_NUMBER: u32 = 5;
+
+pub const ROOM_SIZE: u32 = 6;
+
 // What was asked of the pack.
 pub const FORMED: u32 = 0;
 
-pub const ORDER: u32 = 1;
+pub const TYPES: u32 = 1;
+
+pub const ROOT: u32 = 2;
+
+pub const ORDER: u32 = 3;
 
 pub struct Run {
     pub next: u32,
@@ -33,8 +41,11 @@ pub struct Run {
     // Whether the bytes are now the result area's, and how many of them there are so far.
     pub in_area: bool,
     pub listed: usize,
+    // How many bytes of the area are lent.
+    pub room: u64,
     // What is asked and wanted, as far as it was read.
     pub asks: u32,
+    pub root: u64,
     pub number: u64,
     pub place: u64,
 }
@@ -52,7 +63,9 @@ pub(crate) fn begun() -> Run {
         asked: true,
         in_area: false,
         listed: 0,
+        room: u64::MAX,
         asks: FORMED,
+        root: 0,
         number: 0,
         place: 0,
     }
@@ -80,6 +93,14 @@ pub(crate) fn with_area(run: Run) -> Run {
 pub(crate) fn with_listed(run: Run, listed: usize) -> Run {
     let mut r = run;
     r.listed = listed;
+    r
+}
+
+// A root's number comes, and then three numbers.
+pub(crate) fn asking_root(run: Run) -> Run {
+    let mut r = run;
+    r.asks = ROOT;
+    r.next = ROOT_NUMBER;
     r
 }
 

@@ -1,0 +1,3 @@
+pub mod WholeLaws
+pub mod Promises
+pub mod Longer

@@ -1,0 +1,6 @@
+pub mod Answers
+pub mod Numbers
+pub mod Ready
+pub mod Types
+pub mod Root
+pub mod Order
