@@ -2,15 +2,14 @@
 -- Assumes nothing.
 use Prim.Native.Nat.{ℕ, _+_, _≤_, _<_}
 use mathlib.Core.Path.{_≡_, refl, sym, ap, _∙_}
-use mathlib.Core.Bool.{Bool, true, false}
+use mathlib.Core.Bool.{true, false}
 use mathlib.Core.List.{List}
 use native.Mathlib.Omega.{arith}
-use lib.Dec.{eqb, leb}
+use lib.Dec.{eqb}
 use lib.ListN.{length, take}
 use lib.Seq.{getD-take, length-take-le}
 use borrow.Author.Tests.{le-leb, ne-eqb}
-use Rattle.laws.specs.Answers.{after}
-use Rattle.laws.proofs.Choice.{yes, no, by-test, fails}
+use Rattle.laws.proofs.Choice.{no, by-test}
 use Rattle.laws.proofs.Answers.{stands}
 use Rattle.laws.proofs.Tests.{all-same}
 use Rattle.pack.specs.Answer.{refuse, needs, passes}

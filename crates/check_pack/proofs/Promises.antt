@@ -19,20 +19,19 @@ use Rattle.formed.specs.Formed.{formedOf}
 use Rattle.expr.specs.Root.{rootAnswer}
 use Rattle.expr.specs.declared.answer.Checked.{Checked}
 use Rattle.expr.specs.declared.answer.Checked.the-variants as checked
-use Rattle.value_cycle.specs.Order.{Outcome, orderOf as listingOf}
+use Rattle.value_cycle.specs.Order.{orderOf as listingOf}
 use Rattle.value_cycle.specs.declared.answer.Order.{Order}
 use Rattle.value_cycle.specs.declared.answer.Order.the-variants as order
-use Rattle.value_cycle.proofs.Promises.{promised}
 use Rattle.entries.specs.Answers.{Told, Result, result, report, refusal, readingTold, checkedTold, orderTold}
 use Rattle.entries.specs.Types.{typesAnswer, typesOf}
 use Rattle.entries.specs.Root.{rootOf}
 use Rattle.entries.specs.Order.{orderResult, orderOf}
 use Rattle.entries.proofs.ReadyLaws.{by-reading, types-formed, formed-ready}
 use Rattle.entries.proofs.Promises.{order-goes, root-goes}
-use Rattle.check_pack.specs.Whole.{Whole, whole, orderVerdict, orderPart, accepted, rootsAnswer, afterRoots, rootsPart, wholeOf}
+use Rattle.check_pack.specs.Whole.{Whole, orderVerdict, accepted, rootsAnswer, afterRoots, rootsPart, wholeOf}
 use Rattle.check_pack.specs.declared.whole.Verdict.{Verdict}
 use Rattle.check_pack.specs.declared.whole.Verdict.the-variants.{NoTypes, NoRoot, NoOrder, Passed}
-use Rattle.check_pack.proofs.WholeLaws.{types-pass, types-stop, roots-part, has-room}
+use Rattle.check_pack.proofs.WholeLaws.{types-pass, types-stop, has-room}
 
 -- the entry's answer to root i, whatever the area is, if it has room for the words of c's expressions
 pub record RootSays (p : List ℕ) (c : Counts) (i : ℕ) (t : Told) : Type 0 where

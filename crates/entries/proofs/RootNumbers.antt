@@ -3,7 +3,7 @@
 use Prim.Native.Nat.{ℕ, zero, suc, _+_, _*_}
 use mathlib.Core.Path.{_≡_, refl}
 use mathlib.Core.Bool.{Bool, true, false}
-use mathlib.Core.List.{List, [], _∷_}
+use mathlib.Core.List.{List, _∷_}
 use native.Mathlib.Omega.{arith}
 use lib.Dec.{eqb, lit≤}
 use borrow.Author.Tests.{eqb-false}
@@ -14,7 +14,6 @@ use Rattle.pack.specs.Lists.{listItem}
 use Rattle.pack.specs.Rows.{definitionRow}
 use Rattle.pack.specs.declared.counts.Counts.{Counts}
 use Rattle.pack.specs.declared.rows.ExpressionRow.{ExpressionRow}
-use Rattle.pack.specs.declared.answer.Refusal.{Refusal}
 use Rattle.unionfind.specs.Answers.{full, setAnswer, freshAnswer}
 use Rattle.unionfind.specs.declared.codes.Kind.{Kind}
 use Rattle.unionfind.specs.declared.answer.Made.{Made}
@@ -36,7 +35,7 @@ use Rattle.members.specs.declared.answer.Subject.{Subject}
 use Rattle.members.specs.declared.answer.Subject.the-variants as subject
 use Rattle.members.specs.declared.answer.Accessed.{Accessed}
 use Rattle.members.specs.declared.answer.Accessed.the-variants as accessed
-use Rattle.expr.specs.State.{Env, State, Ans, Typing, outcome, done, refuseWith, refuse, cont, _then_, contWith, _gives_, resolving, typedMade, freshType, stepFor, unifyStep}
+use Rattle.expr.specs.State.{Env, State, Ans, Typing, done, refuseWith, cont, _then_, contWith, _gives_, resolving, typedMade, freshType, stepFor, unifyStep}
 use Rattle.expr.specs.Rules.{Run, bareRule, literalRule, slotRule, letType, letRule, stmtRule, stmtsRule, lastRule, blockRule, boolFirst, operandType, resultLast, rightRule, operatorRule, guardRule, bodyRule, armRule, armsRule, casesRule, subjectRule, matchRule, fieldsRule, recordRule, fieldTypeRule, accessedRule, fieldRule, returnedRule, returnRule, kindRule, nodeRule, exprRule}
 use Rattle.expr.specs.Root.{rootRule}
 use Rattle.expr.specs.declared.answer.Outcome.{Outcome}
