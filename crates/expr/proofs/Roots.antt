@@ -2,6 +2,7 @@
 --     table-is         the table that `number_rows` fills is the one that the definitions read
 --     root-given       the state in which the body is checked
 --     at-variable, at-slot, at-body     35, 34, and the body's answer
+--     checks-one       two results that meet one contract are equal
 --     tells-refused, tells-report       the contract of `check_root`, from the step and the arrays that the rule leaves
 -- Assumes nothing.
 use mathlib.Core.Path.{_≡_, refl, sym, ap, _∙_}
@@ -154,3 +155,8 @@ module _ {p : List ℕ} {c : Counts} {same marks area : List ℕ} (h : Checks p 
             returns = ret-coded;
             marked = marked;
           }
+
+-- two results that meet the contract of `check_root` are equal
+pub checks-one : (p : List ℕ) (c : Counts) (root : ℕ) (area : List ℕ) {x y : Checked} {xs ys : List ℕ} → (x ≡ rootAnswer p c root) × (xs ≡ rootArea p c root area)
+    → (y ≡ rootAnswer p c root) × (ys ≡ rootArea p c root area) → (x ≡ y) × (xs ≡ ys)
+checks-one p c root area a b = (a .0 ∙ sym (b .0), a .1 ∙ sym (b .1))

@@ -1,4 +1,6 @@
 -- "4. Expressions. Each node has an expected type; its word records that type as resolved at the end."
+-- "Places: .. 20, 33, 34: the node whose rule asked (root parameters: the body). 21, 22: left node. 23, 24: examinee. 25: that arm's body.
+-- 26 to 32, 36: the node. 35: let, body or node."
 -- One rule a kind of node, its tests in document 01's order. A rule is given the checker of its parts (`Run`), so that `exprRule` alone
 -- recurses, on the depth left. `want` is the expected type's code; `vars` variables are in use.
 use Prim.Native.Nat.{ℕ, zero, suc, _+_, _-_, _*_, _%_}
@@ -36,6 +38,46 @@ use Rattle.expr.specs.declared.answer.Typed.the-variants as typed
 abbrev pub Run : Type 0
 Run = ℕ → ℕ → ℕ → State → Ans
 
+-- ---- names of document 01
+
+-- "Expression: kind 6 .. 0 literal .. 1 slot a. 2 block .. 3 let .. 4 match .. 5 operator .. 6 record .. 7 field .. 8 return"
+abbrev pub literalKind : ℕ
+literalKind = 0
+
+abbrev pub slotKind : ℕ
+slotKind = 1
+
+abbrev pub blockKind : ℕ
+blockKind = 2
+
+abbrev pub letKind : ℕ
+letKind = 3
+
+abbrev pub matchKind : ℕ
+matchKind = 4
+
+abbrev pub operatorKind : ℕ
+operatorKind = 5
+
+abbrev pub recordKind : ℕ
+recordKind = 6
+
+abbrev pub fieldKind : ℕ
+fieldKind = 7
+
+abbrev pub returnKind : ℕ
+returnKind = 8
+
+-- "5 bare integer, 6 bare float, 7 unit"
+abbrev pub bareInteger : ℕ
+bareInteger = 5
+
+abbrev pub bareFloat : ℕ
+bareFloat = 6
+
+abbrev pub unitLiteral : ℕ
+unitLiteral = 7
+
 -- ---- types that the rules name
 
 abbrev pub unitCode : ℕ
@@ -47,7 +89,7 @@ definitionCode d = code definitionTag (d % numbers)
 
 -- "literal (op 0 to 4 and 8 to 17 as primitives; .. 7 unit)" (an op has 6 bits)
 unfoldable pub literalCode : ℕ → ℕ
-literalCode op = pick (eqb op 7) unitCode (code primitiveTag (op % numbers))
+literalCode op = pick (eqb op unitLiteral) unitCode (code primitiveTag (op % numbers))
 
 -- ---- what is noted of a node
 
@@ -67,8 +109,8 @@ bareRule kind marks id want vars s = freshType kind vars s gives λ x vars s. un
 
 unfoldable pub literalRule : List ℕ → ℕ → ExpressionRow → ℕ → ℕ → State → Ans
 literalRule marks id n want vars s =
-    pick (eqb (n .op) 5) (bareRule IntVar marks id want vars s)
-    (pick (eqb (n .op) 6) (bareRule FloatVar marks id want vars s)
+    pick (eqb (n .op) bareInteger) (bareRule IntVar marks id want vars s)
+    (pick (eqb (n .op) bareFloat) (bareRule FloatVar marks id want vars s)
     (letting (literalCode (n .op)) λ x. unifyStep marks id want x vars s))
 
 -- "33: slot not open"; a slot holds 0 (never bound), 1 (closed) or 2 + code
@@ -105,11 +147,11 @@ letRule run e id n vars s =
 unfoldable pub stmtRule : Run → Env → ℕ → ℕ → State → Ans
 stmtRule run e id vars s =
     letting (expressionRow (e .p) (e .c) id) λ n.
-    pick (eqb (n .kind) 3)
+    pick (eqb (n .kind) letKind)
     (letRule run e id n vars s)
     (freshType Var vars s gives λ x vars s. run id x vars s)
 
--- the statements of a list from the k-th on, so many left; d: whether one before them diverged
+-- the statements of a list from the k-th on, so many left; d: whether one before them diverged ("Others diverge if a part does.")
 unfoldable pub stmtsRule : Run → Env → ℕ → ℕ → ℕ → Bool → ℕ → State → Ans
 stmtsRule run e list zero k d vars s = done d 0 vars s
 stmtsRule run e list (suc left) k d vars s =
@@ -170,6 +212,7 @@ rightRule run e id n want own d vars s =
     letting (d || r .diverges) λ d. done d (plan .call) (u .vars) s)
     (refuse (plan .number) (n .a) s)
 
+-- the fresh variable is "made as its rule starts (Lt to Ne: after bool)"
 unfoldable pub operatorRule : Run → Env → ℕ → ExpressionRow → ℕ → ℕ → State → Ans
 operatorRule run e id n want vars s =
     boolFirst (e .marks) id (n .op) want vars s then λ u s.
@@ -195,7 +238,8 @@ unfoldable pub payloadCloses : List ℕ → Counts → ℕ → List ℕ → List
 payloadCloses p c zero slots = slots
 payloadCloses p c (suc l) slots = closeList p c l slots
 
--- guard, then body against expected, in arm k of the list of arms; then its slots close
+-- guard, then body against expected, in arm k of the list of arms; then its slots close. "guards don't count": the arm diverges if its body
+-- does
 unfoldable pub bodyRule : Run → Env → ℕ → ℕ → ℕ → ℕ → ℕ → State → Ans
 bodyRule run e arms k payload want vars s =
     letting (listItem (e .p) (e .c) arms (4 * k + 2)) λ guard.
@@ -244,6 +288,7 @@ subjectRule run e id n want vars s subject.Other = refuse 24 (n .a) s
 subjectRule run e id n want vars s subject.Generic = refuse 36 id s
 subjectRule run e id n want vars s (subject.Enum list) = casesRule run e id list (n .b) want vars s
 
+-- "One fresh variable each for: .. match, field, .. made as its rule starts"; "23, 24: examinee"
 unfoldable pub matchRule : Run → Env → ℕ → ExpressionRow → ℕ → ℕ → State → Ans
 matchRule run e id n want vars s =
     freshType Var vars s gives λ own vars s.
@@ -310,14 +355,14 @@ returnRule run e id n vars s = returnedRule run e id (n .a) vars s then λ o s. 
 -- (a let that is no statement, and a kind past 8, are not met: 15 and 10 come before)
 unfoldable pub kindRule : Run → Env → ℕ → ExpressionRow → ℕ → ℕ → State → ℕ → Ans
 kindRule run e id n want vars s kind =
-    pick (eqb kind 0) (literalRule (e .marks) id n want vars s)
-    (pick (eqb kind 1) (slotRule (e .marks) id n want vars s)
-    (pick (eqb kind 2) (blockRule run e id n want vars s)
-    (pick (eqb kind 4) (matchRule run e id n want vars s)
-    (pick (eqb kind 5) (operatorRule run e id n want vars s)
-    (pick (eqb kind 6) (recordRule run e id n want vars s)
-    (pick (eqb kind 7) (fieldRule run e id n want vars s)
-    (pick (eqb kind 8) (returnRule run e id n vars s)
+    pick (eqb kind literalKind) (literalRule (e .marks) id n want vars s)
+    (pick (eqb kind slotKind) (slotRule (e .marks) id n want vars s)
+    (pick (eqb kind blockKind) (blockRule run e id n want vars s)
+    (pick (eqb kind matchKind) (matchRule run e id n want vars s)
+    (pick (eqb kind operatorKind) (operatorRule run e id n want vars s)
+    (pick (eqb kind recordKind) (recordRule run e id n want vars s)
+    (pick (eqb kind fieldKind) (fieldRule run e id n want vars s)
+    (pick (eqb kind returnKind) (returnRule run e id n vars s)
     (refuse 15 id s))))))))
 
 -- the expected type is recorded first; then the rule of the node's kind; then the note is sealed

@@ -95,7 +95,7 @@ infixr 5 _gives_
 unfoldable pub _gives_ : Typing → (ℕ → ℕ → State → Ans) → Ans
 a gives k = contWith (a .typed) (a .st) k
 
--- "variable found": what a type stands for; finding sets every cell passed
+-- what a type stands for: "find follows links and sets every cell passed to what it found"
 unfoldable pub resolving : ℕ → State → (ℕ → State → Ans) → Ans
 resolving x s k = k (resolveOf (s .cells) x) (withCells (settled (s .cells) x) s)
 

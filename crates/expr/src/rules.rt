@@ -53,6 +53,31 @@ use unionfind::Kind;
 use unionfind::UnionFind;
 use words::Notes;
 
+// The kinds of expression rows.
+pub struct Node {
+    pub kind: u32,
+}
+
+impl Node {
+    pub const LITERAL: u32 = 0;
+
+    pub const SLOT: u32 = 1;
+
+    pub const BLOCK: u32 = 2;
+
+    pub const LET: u32 = 3;
+
+    pub const MATCH: u32 = 4;
+
+    pub const OPERATOR: u32 = 5;
+
+    pub const RECORD: u32 = 6;
+
+    pub const FIELD: u32 = 7;
+
+    pub const RETURN: u32 = 8;
+}
+
 // A let: its type, its value, then its slot opens.
 pub fn let_stmt(
     pack: &[u8],
@@ -121,7 +146,7 @@ pub fn stmt(
         r (now (cells .exit)) (now (slots .exit)) (now (notes .exit)) ⌝ }
 {
     let n = expression_row(pack, c, id);
-    if n.kind == 3 {
+    if n.kind == Node::LET {
         return let_stmt(
             pack,
             c,
@@ -1051,9 +1076,9 @@ pub fn rule(
 {
     let kind = n.kind;
     match kind {
-        0 => literal(cells, marks, id, n, want, vars),
-        1 => slot(cells, marks, slots, id, n, want, vars),
-        2 => block(
+        Node::LITERAL => literal(cells, marks, id, n, want, vars),
+        Node::SLOT => slot(cells, marks, slots, id, n, want, vars),
+        Node::BLOCK => block(
             pack,
             c,
             same,
@@ -1068,7 +1093,7 @@ pub fn rule(
             want,
             vars,
         ),
-        4 => match_expr(
+        Node::MATCH => match_expr(
             pack,
             c,
             same,
@@ -1083,7 +1108,7 @@ pub fn rule(
             want,
             vars,
         ),
-        5 => binop(
+        Node::OPERATOR => binop(
             pack,
             c,
             same,
@@ -1098,7 +1123,7 @@ pub fn rule(
             want,
             vars,
         ),
-        6 => record_fields(
+        Node::RECORD => record_fields(
             pack,
             c,
             same,
@@ -1113,7 +1138,7 @@ pub fn rule(
             want,
             vars,
         ),
-        7 => access_field(
+        Node::FIELD => access_field(
             pack,
             c,
             same,
@@ -1128,7 +1153,7 @@ pub fn rule(
             want,
             vars,
         ),
-        8 => return_expr(
+        Node::RETURN => return_expr(
             pack,
             c,
             same,

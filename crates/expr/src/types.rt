@@ -27,6 +27,13 @@ use unionfind::UnionFind;
 use unionfind::code_of;
 use unionfind::fresh;
 
+// The ops of literals that are no primitive's number.
+const BARE_INTEGER: u32 = 5;
+
+const BARE_FLOAT: u32 = 6;
+
+const UNIT_LITERAL: u32 = 7;
+
 // The codes of two types that the rules name.
 pub struct Code {
     pub code: u32,
@@ -92,7 +99,7 @@ fn bare(
 fn literal_code(op: u32) -> u32
     ensures { λ r. ⌜ r ≡ literalCode op ⌝ }
 {
-    if op == 7 {
+    if op == UNIT_LITERAL {
         Code::UNIT
     } else {
         code_of(Tag::PRIMITIVE, op % Tag::NUMBERS)
@@ -118,10 +125,10 @@ pub fn literal(
     ensures { λ r. ⌜ CellsRan vars (literalRule (now (marks .entry)) id n want vars) (now (cells .entry)) r (now (cells .exit)) ⌝ }
 {
     let op = n.op;
-    if op == 5 {
+    if op == BARE_INTEGER {
         return bare(cells, marks, Kind::IntVar, id, want, vars);
     }
-    if op == 6 {
+    if op == BARE_FLOAT {
         return bare(cells, marks, Kind::FloatVar, id, want, vars);
     }
     meet(cells, marks, id, want, literal_code(op), vars)
@@ -141,8 +148,8 @@ pub fn slot(
     ensures { λ r. ⌜ SlotsRan vars (slotRule (now (marks .entry)) id n want vars) (now (cells .entry)) (now (slots .entry)) r (now (cells .exit)) ⌝ }
 {
     let x = slot_at(slots, n.a);
-    if 2 <= x {
-        meet(cells, marks, id, want, x - 2, vars)
+    if Slots::OPEN <= x {
+        meet(cells, marks, id, want, x - Slots::OPEN, vars)
     } else {
         refuse(33, id, 0)
     }
