@@ -4,5 +4,6 @@ pub mod Unique
 pub mod Numbered
 pub mod RootNumbers
 pub mod RootAreas
+pub mod RootTrees
 pub mod Promises
 pub mod Worked

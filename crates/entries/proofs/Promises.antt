@@ -1,7 +1,7 @@
 -- What the entries promise, in one place. Read this file first; it cites the layers, and each promise stands under its plain sentence.
 -- A pack p is any list of bytes, an area any list of bytes. What an entry answers is its contract's right side: `typesOf p`,
 -- `rootOf p root area`, `orderOf p area` (specs/). That each ends, and touches nothing but what it was lent, is what the language gives to every function.
---     demand 1    types-ends, root-ends, order-ends
+--     demand 1    types-ends, root-ends, order-ends; by the root's tree of nodes: root-writes, root-never
 --     demand 2    types-say, root-stops, root-goes, order-stops, order-says
 --     demand 3    order-says
 --     one answer  types-one, root-one, order-one (Unique)
@@ -39,7 +39,8 @@ use Rattle.value_cycle.specs.declared.answer.Order.{Order}
 use Rattle.value_cycle.specs.declared.answer.Order.the-variants as order
 use Rattle.value_cycle.proofs.Promises.{Promised}
 use Rattle.value_cycle.proofs.WellFormed.{promised-of-formed}
-use Rattle.expr.specs.Root.{sameOf, marksOf, rootAnswer, rootArea}
+use Rattle.expr.specs.State.{State}
+use Rattle.expr.specs.Root.{sameOf, marksOf, rootRule, rootAnswer, rootArea}
 use Rattle.expr.specs.declared.answer.Checked.{Checked}
 use Rattle.expr.specs.declared.answer.Checked.the-variants as checked
 use Rattle.entries.specs.Answers.{Told, Result, result, report, refusal, readingTold, checkedTold, orderTold}
@@ -48,9 +49,10 @@ use Rattle.entries.specs.Ready.{readyToCheck, readyToOrder}
 use Rattle.entries.specs.Types.{typesAnswer, typesOf}
 use Rattle.entries.specs.Root.{checkedBy, rootChecked, rootResult, rootOf}
 use Rattle.entries.specs.Order.{ordered, orderAnswer, orderResult, orderOf}
-use Rattle.entries.proofs.Numbered.{among-last, types-numbers, ready-root-numbers, ready-order-numbers}
+use Rattle.entries.proofs.Numbered.{Numbered, of-report, of-need, among-last, types-numbers, ready-root-numbers, ready-order-numbers}
 use Rattle.entries.proofs.RootAreas.{NodeByte, root-refused, root-reported}
-use Rattle.entries.proofs.ReadyLaws.{by-reading, root-ready, order-ready, formed-ready, formed-checks, types-ready, counts-are}
+use Rattle.entries.proofs.RootTrees.{Words, root-words, root-avoids}
+use Rattle.entries.proofs.ReadyLaws.{by-reading, root-ready, order-ready, formed-asks, formed-ready, formed-checks, types-ready, counts-are}
 
 -- ---- Demand 1
 
@@ -123,15 +125,19 @@ abbrev pub RootByte : List ℕ → Counts → ℕ → ℕ → Type 0
 RootByte p c root i = NodeByte p c (sameOf p c) (marksOf p c) root i
 
 module _ (p : List ℕ) (root : ℕ) (area : List ℕ) (c : Counts) where
+  -- a refusal of module 4 leaves the area, and has one of 01's numbers
+  checked-refused : (f : Refusal) → rootAnswer p c root ≡ checked.Refused f → (rootArea p c root area ≡ area) × In (f .number) ofRoot
+  checked-refused f e =
+      let r = root-refused p c (sameOf p c) (marksOf p c) root area f e in
+      (r .0, among-last (f .number) ofPack (5 ∷ 6 ∷ ofRules) (omega (arith, count-append (f .number) (5 ∷ 6 ∷ []) ofRules, r .1)))
+
   checked-ends : (a : Checked) → rootAnswer p c root ≡ a → Leaves ofRoot (RootByte p c root) area (result (checkedTold (rootAnswer p c root)) (rootArea p c root area))
   checked-ends checked.Report e =
       let r = root-reported p c (sameOf p c) (marksOf p c) root area e in
       reports (ap checkedTold e) (r .0) (r .1)
   checked-ends (checked.Refused f) e =
-      let r = root-refused p c (sameOf p c) (marksOf p c) root area f e in
-      refuses
-      (subst (λ (t : Told). In (t .number) ofRoot) (sym (ap checkedTold e)) (among-last (f .number) ofPack (5 ∷ 6 ∷ ofRules) (omega (arith, count-append (f .number) (5 ∷ 6 ∷ []) ofRules, r .1))))
-      (r .0)
+      let r = checked-refused f e in
+      refuses (subst (λ (t : Told). In (t .number) ofRoot) (sym (ap checkedTold e)) (r .1)) (r .0)
 
 pub root-ends : (p : List ℕ) (root : ℕ) (area : List ℕ) → Leaves ofRoot (RootByte p (countsOf p) root) area (rootOf p root area)
 root-ends p root area =
@@ -141,6 +147,62 @@ root-ends p root area =
     subst (λ (k : Counts). Leaves ofRoot (RootByte p k root) area (rootOf p root area)) (counts-are p c (ready .0))
     (subst (Leaves ofRoot (RootByte p c root) area) (sym (root-goes p root area c (ready .0) (ready .1) (ready .2))) (checked-ends p root area c (rootAnswer p c root) refl)))
     (λ r e. subst (Leaves ofRoot (RootByte p (countsOf p) root) area) (sym (root-stops p root area r e)) (refuses (ready-root-numbers p root (length area) .inside r e) refl))
+
+-- no refusal of a root has the number of a report
+some-number : (n : ℕ) → In n ofRoot → n ≡ 0 → ⊥
+some-number n h q = let z : In 0 ofRoot = subst (λ (x : ℕ). In x ofRoot) q h in omega arith
+
+-- The state that module 4 leaves: what it noted of each node, and the cells that resolve the types noted.
+abbrev pub rootState : List ℕ → Counts → ℕ → State
+rootState p c root = rootRule p c (sameOf p c) (marksOf p c) root .st
+
+-- After a report of a root a byte of the area differs only if it is one of the 4 at 4·id for a node id of the root's tree (its body, and what
+-- stands below it); and for each node of the tree those 4 bytes are its word's, its type as resolved at the end. (`Words` of RootTrees has
+-- these parts.) A node stands once in the tree of exactly one root (`tree-once`, `roots-apart` and `root-of` of module 4).
+pub root-writes : (p : List ℕ) (root : ℕ) (area : List ℕ) → rootOf p root area .answer ≡ report → Words p (countsOf p) root (rootState p (countsOf p) root) area (rootOf p root area .area)
+root-writes p root area t =
+    by-reading (readyToCheck p root (length area))
+    (λ c e.
+    let ready = root-ready p root (length area) c e in
+    let g = root-goes p root area c (ready .0) (ready .1) (ready .2) in
+    subst (λ (k : Counts). Words p k root (rootState p k root) area (rootOf p root area .area)) (counts-are p c (ready .0))
+    (subst (λ (out : Result). Words p c root (rootState p c root) area (out .area)) (sym g)
+    (root-words p c (well-formed p c (ready .0)) (sameOf p c) (marksOf p c) root (ready .1) area (ready .2)
+    (reported c (rootAnswer p c root) refl (ap (λ (out : Result). out .answer) (sym g) ∙ t)))))
+    (λ r e. absurd (some-number (r .number) (ready-root-numbers p root (length area) .inside r e) (ap (λ (out : Result). out .answer .number) (sym (root-stops p root area r e)) ∙ ap (λ (t : Told). t .number) t)))
+  where
+    reported : (c : Counts) (a : Checked) → rootAnswer p c root ≡ a → checkedTold (rootAnswer p c root) ≡ report → rootAnswer p c root ≡ checked.Report
+    reported c checked.Report e t = e
+    reported c (checked.Refused r) e t =
+        absurd (some-number (r .number) (checked-refused p root area c r e .1) (ap (λ (t : Told). t .number) (sym (ap checkedTold e) ∙ t)))
+
+-- Of a well-formed pack no root is refused by 13 or by 15, whatever the root number and the area: these are faults of the pack's own form.
+pub root-never : (p : List ℕ) (root : ℕ) (area : List ℕ) (c : Counts) → formedOf p ≡ Pack c → (rootOf p root area .answer .number ≡ 13 → ⊥) × (rootOf p root area .answer .number ≡ 15 → ⊥)
+root-never p root area c e =
+    by-reading (readyToCheck p root (length area))
+    (λ k h.
+    let ready = root-ready p root (length area) k h in
+    subst (λ (out : Result). Never (out .answer)) (sym (root-goes p root area k (ready .0) (ready .1) (ready .2))) (told k (well-formed p k (ready .0)) (ready .1) (rootAnswer p k root) refl))
+    (λ r h. subst (λ (out : Result). Never (out .answer)) (sym (root-stops p root area r h)) (asked-never (r .number) (asked .inside r h)))
+  where
+    Never : Told → Type 0
+    Never t = (t .number ≡ 13 → ⊥) × (t .number ≡ 15 → ⊥)
+
+    told : (k : Counts) → WellFormed p k → root < k .roots → (a : Checked) → rootAnswer p k root ≡ a → Never (checkedTold (rootAnswer p k root))
+    told k f l checked.Report h = subst Never (sym (ap checkedTold h)) (λ q. omega arith, λ q. omega arith)
+    told k f l (checked.Refused r) h = subst Never (sym (ap checkedTold h)) (root-avoids p k f (sameOf p k) (marksOf p k) root l r h)
+
+    -- before module 4 there are 5 and 6 alone
+    asked : Numbered (5 ∷ 6 ∷ []) (readyToCheck p root (length area))
+    asked =
+        subst (Numbered (5 ∷ 6 ∷ [])) (formed-asks p root (length area) c e refl)
+        (of-need _ 5 _ (lit≤ tt) (of-need _ 6 _ (lit≤ tt) (subst (Numbered (5 ∷ 6 ∷ [])) (sym e) (of-report c))))
+
+    asked-never : (n : ℕ) → In n (5 ∷ 6 ∷ []) → (n ≡ 13 → ⊥) × (n ≡ 15 → ⊥)
+    asked-never n h = (never 13 (λ z. omega arith), never 15 (λ z. omega arith))
+      where
+        never : (m : ℕ) → (In m (5 ∷ 6 ∷ []) → ⊥) → n ≡ m → ⊥
+        never m z q = z (subst (λ (x : ℕ). In x (5 ∷ 6 ∷ [])) q h)
 
 -- ---- order
 

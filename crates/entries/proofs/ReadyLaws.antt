@@ -2,6 +2,7 @@
 --     root-goes, order-goes     a header that passed: the root number and the area are asked next, before any row
 --     root-stops, order-stops   a header that did not: its refusal stands
 --     root-ready, order-ready   the pack is well-formed and has what is asked for; formed-checks and formed-ready say it the other way round
+--     formed-asks               of a well-formed pack the root number and the area alone are asked
 --     types-ready               what module 3 asks for
 --     types-formed              a pack whose types passed is well-formed
 --     root-checks               what module 4 asks for
@@ -110,11 +111,15 @@ root-ready p root room c e =
     let f = body-formed p c (h .0) (sym (k .1) ∙ sym (i .1) ∙ sym (h .1) ∙ e) in
     (f, rw (counts-are p c f) (ltb-true root (countsOf p .roots) (i .0)), rw (counts-are p c f) (leb-true (4 * countsOf p .expressions) room (k .0)))
 
+-- of a well-formed pack
+pub formed-asks : (p : List ℕ) (root room : ℕ) (c : Counts) {z : Reading} → formedOf p ≡ Pack c → z ≡ needs (ltb root (c .roots)) 5 (needs (leb (4 * c .expressions) room) 6 (formedOf p)) → z ≡ readyToCheck p root room
+formed-asks p root room c e q = root-goes p root room c (headed p c e) q
+
 -- and the other way round
 pub formed-checks : (p : List ℕ) (root room : ℕ) (c : Counts) → formedOf p ≡ Pack c → root < c .roots → 4 * c .expressions ≤ room → readyToCheck p root room ≡ Pack c
 formed-checks p root room c e l m =
     sym
-    (root-goes p root room c (headed p c e)
+    (formed-asks p root room c e
     (unfold needs in
     yes (ltb root (c .roots)) (needs (leb (4 * c .expressions) room) 6 (formedOf p)) _ (lt-ltb root (c .roots) l)
     (yes (leb (4 * c .expressions) room) (formedOf p) _ (le-leb (4 * c .expressions) room m) (sym e))))
