@@ -228,6 +228,12 @@ pub fn hostile() -> Vec<(&'static str, Vec<u8>)> {
 
     all.push(("a match of 1,300 arms on 1,300 variants", model::exhaustive::wide_match(1300, 1300).bytes()));
     all.push(("a record of 2,000 fields, given backward", model::exhaustive::wide_record(2000, 2000).bytes()));
+    all.push(("1,020 times the last of 3,570 fields", model::exhaustive::many_accesses(3570, 1020).bytes()));
+    all.push(("670 matches of `_` on 2,000 variants", model::exhaustive::many_matches(2000, 670, 0).bytes()));
+    all.push((
+        "a match of 1,000 arms of the last of 2,040 variants",
+        model::exhaustive::many_matches(2040, 1, 1000).bytes(),
+    ));
     all.push(("a root of 2,048 variables", model::exhaustive::many_variables(2048, 7).bytes()));
     all.push(("64 deep", model::exhaustive::deep(64).bytes()));
     all.push(("1,024 values over one list of all", values_pack(&vec![(0..1024).collect(); 1024])));

@@ -63,16 +63,14 @@ fn ask_types(plan: &Plan, tally: &mut Tally, bytes: &[u8]) {
     tally.answer(Whose::Reference, &wanted);
     #[cfg(roto)]
     if let Some(pack) = well_formed(bytes)
+        && !matches!(model::types::faults(&pack), (Some(_), Some(_)))
         && let Some(text) = crate::roto::types(&pack)
     {
-        // The text gives no place, and with both faults either of them.
-        let both = wanted.is_err_and(|r| r.number == 40) && text == Err(41);
-        if !both {
-            let text =
-                text.map_err(|number| model::Refusal { number, place: wanted.err().map_or(0, |r| r.place), detail: 0 });
-            tally.answer(Whose::Text, &text);
-            tally.same("text and reference", &text, &wanted, bytes);
-        }
+        // The text gives no place.
+        let place = wanted.err().map_or(0, |r| r.place);
+        let text = text.map_err(|number| model::Refusal { number, place, detail: 0 });
+        tally.answer(Whose::Text, &text);
+        tally.same("text and reference", &text, &wanted, bytes);
     }
     if plan.library {
         let came = guarded::types(bytes);
@@ -220,5 +218,7 @@ pub fn limits(plan: &Plan) -> bool {
     };
     exhaustive::limits(&mut ask);
     exhaustive::lets(&mut ask);
+    ask(exhaustive::many_accesses(100, 100).bytes());
+    ask(exhaustive::many_matches(60, 20, 3).bytes());
     tally.close()
 }

@@ -104,14 +104,15 @@ fn order_case(bytes: &[u8]) -> Option<Case> {
     Some(case)
 }
 
-/// The text gives no place for a fault of types: that is the reference's.
+/// The text gives no place for a fault of types: that is the reference's. With both faults it may give either.
 fn types_case(bytes: &[u8]) -> Option<Case> {
     let pack = well_formed(bytes)?;
-    let reference = model::types::detect_type_cycles(&pack);
-    let text = roto::types(&pack)?;
-    if text.err() != reference.err().map(|r| r.number) {
+    if matches!(model::types::faults(&pack), (Some(_), Some(_))) {
         return None;
     }
+    let reference = model::types::detect_type_cycles(&pack);
+    let text = roto::types(&pack)?;
+    assert_eq!(text.err(), reference.err().map(|r| r.number), "text and reference");
     let mut case = Case::new(0, 0, 0, bytes, &reference);
     let number = text.err().unwrap_or(0);
     case.shows = (0..pack.counts.definitions)

@@ -206,6 +206,47 @@ pub fn wide_record(fields: usize, given: usize) -> Maker {
     maker
 }
 
+/// `times` times the last field of a definition of `fields`, as statements.
+pub fn many_accesses(fields: usize, times: usize) -> Maker {
+    let mut maker = Maker::new();
+    let none = maker.singles(&[]);
+    let unit = maker.type_row(1, 0, 0);
+    let t = maker.type_row(4, 0, none);
+    let list = maker.pairs(&(0..fields).map(|n| (n, unit)).collect::<Vec<_>>());
+    maker.definition(1, 0, list);
+    let statements: Vec<usize> = (0..times)
+        .map(|_| {
+            let of = maker.slot(0);
+            maker.field(of, fields - 1)
+        })
+        .collect();
+    let body = maker.block(&statements, None);
+    maker.root(body, unit, &[(0, t)]);
+    maker
+}
+
+/// `times` times a match on an enum of `variants`, as statements, each with `arms` arms of the last variant and `_`.
+pub fn many_matches(variants: usize, times: usize, arms: usize) -> Maker {
+    let mut maker = Maker::new();
+    let none = maker.singles(&[]);
+    let unit = maker.type_row(1, 0, 0);
+    let t = maker.type_row(4, 0, none);
+    let list = maker.pairs(&(0..variants).map(|v| (v, none)).collect::<Vec<_>>());
+    maker.definition(0, 0, list);
+    let statements: Vec<usize> = (0..times)
+        .map(|_| {
+            let examinee = maker.slot(0);
+            let mut all: Vec<_> =
+                (0..arms).map(|_| (Pattern::Variant(variants - 1, None), None, maker.literal(7))).collect();
+            all.push((Pattern::Underscore, None, maker.literal(7)));
+            maker.match_expr(examinee, &all)
+        })
+        .collect();
+    let body = maker.block(&statements, None);
+    maker.root(body, unit, &[(0, t)]);
+    maker
+}
+
 /// 256 lets, and `again` more of the last slot.
 fn all_slots(again: usize) -> Maker {
     let mut maker = Maker::new();

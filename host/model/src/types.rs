@@ -26,33 +26,32 @@ fn leads_to(pack: &Pack, definition: usize) -> HashSet<usize> {
     seen
 }
 
-pub fn detect_type_cycles(pack: &Pack) -> Answer<()> {
+/// The smallest definition with a variable in a field, and the smallest one on a cycle of names.
+pub fn faults(pack: &Pack) -> (Option<usize>, Option<usize>) {
     let d = pack.counts.definitions;
-    let mut names = Vec::new();
-    for definition in 0..d {
-        let mut to = HashSet::new();
-        for t in leads_to(pack, definition) {
-            let row = pack.type_row(t);
-            if matches!(row.kind, 7..=10) {
-                return refuse(40, definition);
-            }
-            if row.kind == 4 {
-                to.insert(row.a);
-            }
-        }
-        names.push(to);
-    }
-    for definition in 0..d {
+    let leads: Vec<HashSet<usize>> = (0..d).map(|definition| leads_to(pack, definition)).collect();
+    let unresolved = (0..d).find(|d| leads[*d].iter().any(|t| matches!(pack.type_row(*t).kind, 7..=10)));
+    let names: Vec<Vec<usize>> = leads
+        .iter()
+        .map(|types| types.iter().map(|t| pack.type_row(*t)).filter(|row| row.kind == 4).map(|row| row.a).collect())
+        .collect();
+    let on_cycle = |definition: &usize| {
         let mut seen = HashSet::new();
-        let mut left: Vec<usize> = names[definition].iter().copied().collect();
+        let mut left = names[*definition].clone();
         while let Some(n) = left.pop() {
-            if n == definition {
-                return refuse(41, definition);
-            }
             if seen.insert(n) {
-                left.extend(names[n].iter().copied());
+                left.extend(&names[n]);
             }
         }
+        seen.contains(definition)
+    };
+    (unresolved, (0..d).find(on_cycle))
+}
+
+pub fn detect_type_cycles(pack: &Pack) -> Answer<()> {
+    match faults(pack) {
+        (Some(definition), _) => refuse(40, definition),
+        (None, Some(definition)) => refuse(41, definition),
+        (None, None) => Ok(()),
     }
-    Ok(())
 }

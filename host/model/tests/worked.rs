@@ -30,6 +30,25 @@ fn bytes(word: &str) -> Option<Vec<u8>> {
     Some(all)
 }
 
+/// What `worked` has in its area before, and how long that is.
+const FILL: u8 = 165;
+const AREA: usize = 16400;
+
+/// The answer as numbers, and the area after it.
+fn asked(word: &str, pack: &[u8], root: u64, room: usize) -> ((u64, u64, u64), Vec<u8>) {
+    let mut area = vec![FILL; AREA];
+    let mut put = |at: usize, bytes: &[u8]| area[at..at + bytes.len()].copy_from_slice(bytes);
+    let answer = match word {
+        "formed" => model::Pack::read(pack).and_then(|p| model::formed::formed(&p)),
+        "types" => model::check_types(pack),
+        "order" => model::order(pack, room)
+            .map(|values| (0..).zip(values).for_each(|(i, v)| put(2 * i, &(v as u16).to_be_bytes()))),
+        _ => model::check_root(pack, root, room)
+            .map(|words| words.into_iter().for_each(|(id, w)| put(4 * id, &w.to_be_bytes()))),
+    };
+    (answer.err().map_or((0, 0, 0), |r| (u64::from(r.number), u64::from(r.place), r.detail)), area)
+}
+
 #[test]
 fn the_cases_of_worked() {
     let path = concat!(env!("CARGO_MANIFEST_DIR"), "/../../crates/worked/stdin");
@@ -37,27 +56,25 @@ fn the_cases_of_worked() {
     let mut words = text.lines().enumerate().flat_map(|(n, line)| {
         line.split('#').next().expect("a line").split_whitespace().map(move |word| (n + 1, word))
     });
-    let (mut pack, mut area, mut in_area, mut asked) = (Vec::new(), Vec::new(), false, 0);
+    let (mut pack, mut area, mut in_area, mut room, mut cases) = (Vec::new(), Vec::new(), false, AREA, 0);
     while let Some((line, word)) = words.next() {
         let mut number = || words.next().expect("a number").1.parse::<u64>().expect("a number");
         match word {
             "group" => drop(words.next()),
-            "case" => (pack, area, in_area) = (Vec::new(), Vec::new(), false),
+            "case" => (pack, area, in_area, room) = (Vec::new(), Vec::new(), false, AREA),
             "area" => in_area = true,
+            "room" => room = number() as usize,
             "formed" | "types" | "order" | "root" => {
                 let root = if word == "root" { number() } else { 0 };
                 let wanted = (number(), number(), number());
-                let written = |listed: Vec<u8>| assert_eq!(listed, area, "line {line}: the area");
-                let came = match word {
-                    "formed" => model::Pack::read(&pack).and_then(|p| model::formed::formed(&p)),
-                    "types" => model::check_types(&pack),
-                    "order" => model::order(&pack, 2064)
-                        .map(|values| written(values.iter().flat_map(|v| (*v as u16).to_be_bytes()).collect())),
-                    _ => model::check_root(&pack, root, 16384).map(|_| ()),
-                };
-                let came = came.err().map_or((0, 0, 0), |r| (u64::from(r.number), u64::from(r.place), r.detail));
+                let (came, after) = asked(word, &pack, root, room);
                 assert_eq!(came, wanted, "line {line}");
-                asked += 1;
+                if matches!(word, "order" | "root") {
+                    let mut wanted: Vec<u8> = area.clone();
+                    wanted.resize(AREA, FILL);
+                    assert_eq!(after, wanted, "line {line}: the area");
+                }
+                cases += 1;
             }
             _ => {
                 let more = bytes(word).unwrap_or_else(|| panic!("line {line}: {word}"));
@@ -65,5 +82,5 @@ fn the_cases_of_worked() {
             }
         }
     }
-    assert!(asked >= 525, "{asked} cases");
+    assert!(cases >= 525, "{cases} cases");
 }
