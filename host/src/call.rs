@@ -2,7 +2,8 @@
 
 use crate::Refusal;
 
-mod library {
+/// The functions as the library has them. A slice is a pointer and then a length.
+pub mod entries {
     unsafe extern "C" {
         pub fn rulepack_types(pack: *const u8, length: usize, place: *mut u32, detail: *mut u64) -> u32;
 
@@ -44,7 +45,7 @@ fn asked(call: impl FnOnce(&mut u32, &mut u64) -> u32) -> Result<(), Refusal> {
 pub fn check_types(pack: &[u8]) -> Result<(), Refusal> {
     asked(|place, detail| {
         // SAFETY: the pack is read within its length; place and detail are written; nothing is kept.
-        unsafe { library::rulepack_types(pack.as_ptr(), pack.len(), place, detail) }
+        unsafe { entries::rulepack_types(pack.as_ptr(), pack.len(), place, detail) }
     })
 }
 
@@ -59,7 +60,7 @@ pub fn check_types(pack: &[u8]) -> Result<(), Refusal> {
 pub fn check_root(pack: &[u8], root: u64, area: &mut [u8]) -> Result<(), Refusal> {
     asked(|place, detail| {
         // SAFETY: the pack is read and the area written within their lengths; nothing is kept.
-        unsafe { library::rulepack_root(pack.as_ptr(), pack.len(), root, area.as_mut_ptr(), area.len(), place, detail) }
+        unsafe { entries::rulepack_root(pack.as_ptr(), pack.len(), root, area.as_mut_ptr(), area.len(), place, detail) }
     })
 }
 
@@ -73,6 +74,6 @@ pub fn check_root(pack: &[u8], root: u64, area: &mut [u8]) -> Result<(), Refusal
 pub fn order(pack: &[u8], area: &mut [u8]) -> Result<(), Refusal> {
     asked(|place, detail| {
         // SAFETY: the pack is read and the area written within their lengths; nothing is kept.
-        unsafe { library::rulepack_order(pack.as_ptr(), pack.len(), area.as_mut_ptr(), area.len(), place, detail) }
+        unsafe { entries::rulepack_order(pack.as_ptr(), pack.len(), area.as_mut_ptr(), area.len(), place, detail) }
     })
 }

@@ -59,6 +59,8 @@ mod call;
 mod refusal;
 mod word;
 
+#[doc(hidden)]
+pub use call::entries;
 pub use call::{check_root, check_types, order};
 pub use refusal::Refusal;
 pub use word::{Call, Primitive, Type, Word};

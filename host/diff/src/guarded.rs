@@ -2,34 +2,7 @@
 //! poisoned, and after the call every byte is looked at.
 
 use model::{Answer, Refusal};
-
-mod library {
-    unsafe extern "C" {
-        pub fn rulepack_types(pack: *const u8, length: usize, place: *mut u32, detail: *mut u64) -> u32;
-
-        pub fn rulepack_root(
-            pack: *const u8,
-            length: usize,
-            root: u64,
-            area: *mut u8,
-            size: usize,
-            place: *mut u32,
-            detail: *mut u64,
-        ) -> u32;
-
-        pub fn rulepack_order(
-            pack: *const u8,
-            length: usize,
-            area: *mut u8,
-            size: usize,
-            place: *mut u32,
-            detail: *mut u64,
-        ) -> u32;
-    }
-}
-
-// The library is linked by this crate.
-use rulepack as _;
+use rulepack::entries;
 
 const GUARD: usize = 64;
 
@@ -65,7 +38,7 @@ fn with_area(
 
 pub fn types(pack: &[u8]) -> Answer<()> {
     // SAFETY: see rulepack's own call.
-    told(|place, detail| unsafe { library::rulepack_types(pack.as_ptr(), pack.len(), place, detail) })
+    told(|place, detail| unsafe { entries::rulepack_types(pack.as_ptr(), pack.len(), place, detail) })
 }
 
 /// The answer, and whether every byte of the area is what `words` says, or the pattern.
@@ -74,7 +47,7 @@ pub fn root(pack: &[u8], root: u64, size: usize, words: &[(usize, u32)]) -> (Ans
         size,
         // SAFETY: see rulepack's own call; the area is inside a longer one.
         |area, place, detail| unsafe {
-            library::rulepack_root(pack.as_ptr(), pack.len(), root, area, size, place, detail)
+            entries::rulepack_root(pack.as_ptr(), pack.len(), root, area, size, place, detail)
         },
         |answer, area| {
             if answer.is_ok() {
@@ -93,7 +66,7 @@ pub fn order(pack: &[u8], size: usize, listed: &[usize]) -> (Answer<()>, bool) {
     with_area(
         size,
         // SAFETY: see rulepack's own call; the area is inside a longer one.
-        |area, place, detail| unsafe { library::rulepack_order(pack.as_ptr(), pack.len(), area, size, place, detail) },
+        |area, place, detail| unsafe { entries::rulepack_order(pack.as_ptr(), pack.len(), area, size, place, detail) },
         |answer, area| {
             if answer.is_ok() {
                 for (i, v) in listed.iter().enumerate() {

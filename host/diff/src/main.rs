@@ -1,6 +1,6 @@
 //! Differential runs: the library of proved functions, the plain reference, and the Rust's own text on the same inputs.
 //!
-//!     diff [--runs N] [--seed S] [--thin N] [--no-root] [--no-library] [cells] [order] [types] [roots] [bytes] [limits]
+//!     diff [--runs N] [--seed S] [--thin N] [--no-root] [--no-entries] [cells] [order] [types] [roots] [bytes] [limits]
 //!
 //!     diff record
 //!
@@ -24,13 +24,13 @@ pub struct Plan {
     pub seed: u64,
     /// Of the long tables of short inputs one in so many.
     pub thin: usize,
-    /// Whether the library's answers are asked for, by entry.
-    pub library: bool,
+    /// Whether the proved entries are asked.
+    pub entries: bool,
     pub root: bool,
 }
 
 fn main() {
-    let mut plan = Plan { runs: 20_000, seed: 1, thin: 1, library: true, root: true };
+    let mut plan = Plan { runs: 20_000, seed: 1, thin: 1, entries: true, root: true };
     let mut names = Vec::new();
     let mut words = std::env::args().skip(1);
     while let Some(word) = words.next() {
@@ -40,7 +40,7 @@ fn main() {
             "--seed" => plan.seed = number(),
             "--thin" => plan.thin = number() as usize,
             "--no-root" => plan.root = false,
-            "--no-library" => plan.library = false,
+            "--no-entries" => plan.entries = false,
             _ => names.push(word),
         }
     }

@@ -39,7 +39,7 @@ fn ask_order(plan: &Plan, tally: &mut Tally, bytes: &[u8]) {
         tally.answer(Whose::Text, &text);
         tally.same("text and reference", &text, &wanted, bytes);
     }
-    if plan.library {
+    if plan.entries {
         let needed = Pack::read(bytes).map_or(0, |p| 2 * p.counts.values);
         for size in sizes(needed) {
             let wanted = model::order(bytes, size);
@@ -72,7 +72,7 @@ fn ask_types(plan: &Plan, tally: &mut Tally, bytes: &[u8]) {
         tally.answer(Whose::Text, &text);
         tally.same("text and reference", &text, &wanted, bytes);
     }
-    if plan.library {
+    if plan.entries {
         let came = guarded::types(bytes);
         tally.answer(Whose::Library, &came);
         tally.same("types", &came, &wanted, bytes);
@@ -90,7 +90,7 @@ fn ask_root(plan: &Plan, tally: &mut Tally, bytes: &[u8], root: u64, all_sizes: 
         tally.answer(Whose::Text, &text);
         tally.same("text and reference", &text, &wanted, bytes);
     }
-    if plan.library && plan.root {
+    if plan.entries && plan.root {
         let needed = Pack::read(bytes).map_or(0, |p| 4 * p.counts.expressions);
         for size in &sizes(needed)[..if all_sizes { 4 } else { 1 }] {
             let wanted = model::check_root(bytes, root, *size);

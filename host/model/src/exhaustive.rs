@@ -192,14 +192,20 @@ pub fn wide_match(variants: usize, arms: usize) -> Maker {
     maker
 }
 
-/// A record of `fields`, of which the first `given` are given, backward.
-pub fn wide_record(fields: usize, given: usize) -> Maker {
+/// A record definition of so many unit fields; unit, and its type.
+fn record_of(fields: usize) -> (Maker, usize, usize) {
     let mut maker = Maker::new();
     let none = maker.singles(&[]);
     let unit = maker.type_row(1, 0, 0);
     let t = maker.type_row(4, 0, none);
     let list = maker.pairs(&(0..fields).map(|n| (n, unit)).collect::<Vec<_>>());
     maker.definition(1, 0, list);
+    (maker, unit, t)
+}
+
+/// A record of `fields`, of which the first `given` are given, backward.
+pub fn wide_record(fields: usize, given: usize) -> Maker {
+    let (mut maker, _, t) = record_of(fields);
     let given: Vec<_> = (0..given).rev().map(|n| (n, maker.literal(7))).collect();
     let body = maker.record(0, &given);
     maker.root(body, t, &[]);
@@ -208,12 +214,7 @@ pub fn wide_record(fields: usize, given: usize) -> Maker {
 
 /// `times` times the last field of a definition of `fields`, as statements.
 pub fn many_accesses(fields: usize, times: usize) -> Maker {
-    let mut maker = Maker::new();
-    let none = maker.singles(&[]);
-    let unit = maker.type_row(1, 0, 0);
-    let t = maker.type_row(4, 0, none);
-    let list = maker.pairs(&(0..fields).map(|n| (n, unit)).collect::<Vec<_>>());
-    maker.definition(1, 0, list);
+    let (mut maker, unit, t) = record_of(fields);
     let statements: Vec<usize> = (0..times)
         .map(|_| {
             let of = maker.slot(0);
