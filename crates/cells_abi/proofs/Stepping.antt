@@ -13,7 +13,7 @@ use lib.Dec.{ltb}
 use lib.ListN.{getD, set}
 use borrow.Author.Tests.{lt-ltb, le-ltb}
 use Rattle.laws.proofs.Choice.{yes, no, NoneOf, past-kinds}
-use Rattle.pack.specs.declared.answer.Refusal.{Refusal}
+use Rattle.laws.specs.declared.refusal.Refusal.{Refusal}
 use Rattle.unionfind.specs.Cells.{found, Live}
 use Rattle.unionfind.specs.Answers.{Finds, setAnswer, ifDone, Sets, freshAnswer, Makes}
 use Rattle.unionfind.specs.declared.codes.Kind.{Kind}

@@ -20,7 +20,7 @@ use Rattle.pack.specs.declared.counts.Counts.{Counts}
 use Rattle.pack.specs.declared.answer.Reading.{Reading}
 use Rattle.pack.specs.declared.answer.Reading.the-variants.{Pack}
 use Rattle.pack.proofs.HeaderLaws.{header-passed}
-use Rattle.rows.proofs.TableLaws.{limited}
+use Rattle.pack.proofs.CountLaws.{limited}
 use Rattle.formed.specs.Formed.{formedOf}
 use Rattle.entries.specs.Types.{typesAnswer}
 

@@ -13,7 +13,7 @@ use Rattle.laws.specs.First.{until}
 use Rattle.laws.proofs.Choice.{by-test, fails}
 use Rattle.laws.proofs.First.{each, at-first, none-is, until-is, Until}
 use Rattle.pack.specs.declared.counts.Counts.{Counts}
-use Rattle.pack.specs.declared.answer.Refusal.{Refusal}
+use Rattle.laws.specs.declared.refusal.Refusal.{Refusal}
 use Rattle.pack.specs.declared.answer.Reading.the-variants.{Pack}
 use Rattle.formed.specs.Formed.{formedOf}
 use Rattle.expr.specs.Root.{rootAnswer}

@@ -7,17 +7,17 @@ use native.Mathlib.Omega.{arith}
 use lib.ListN.{length}
 use Rattle.laws.proofs.First.{Left, goes, stops, ends}
 use Rattle.pack.specs.declared.counts.Counts.{Counts}
-use Rattle.pack.specs.declared.answer.Refusal.{Refusal}
+use Rattle.laws.specs.declared.refusal.Refusal.{Refusal}
 use Rattle.pack.specs.declared.answer.Reading.the-variants.{Pack, Refused}
-use Rattle.rows.proofs.TableLaws.{Limited, limited}
+use Rattle.pack.proofs.CountLaws.{Limited, limited}
 use Rattle.formed.specs.Formed.{formedOf}
 use Rattle.formed.proofs.Promises.{well-formed}
 use Rattle.structure.specs.Table.{Numbers}
 use Rattle.expr.specs.Root.{Checks, rootAnswer}
 use Rattle.expr.specs.declared.answer.Checked.{Checked}
 use Rattle.expr.specs.declared.answer.Checked.the-variants as checked
+use Rattle.value_cycle.specs.Area.{Orders}
 use Rattle.value_cycle.specs.Order.{Outcome, outcome}
-use Rattle.value_cycle.specs.Values.{Orders}
 use Rattle.value_cycle.specs.declared.answer.Order.{Order}
 use Rattle.value_cycle.proofs.WellFormed.{orders}
 use Rattle.entries.specs.Types.{typesAnswer}

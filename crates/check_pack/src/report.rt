@@ -1,8 +1,8 @@
 // The lines that the program prints.
 ghost use Prim.Native.Nat.{_<_};
 use crate::whole::Verdict;
+use laws::Refusal;
 use libc::STDOUT_FILENO;
-use pack::Refusal;
 
 fn say(text: &[u8]) {
     io::write_all(STDOUT_FILENO, text);

@@ -16,7 +16,7 @@ use Rattle.laws.proofs.Lists.{count-append}
 use Rattle.pack.specs.Answer.{refuse, needs, passes, numberOf}
 use Rattle.pack.specs.Header.{headerOf}
 use Rattle.pack.specs.declared.counts.Counts.{Counts}
-use Rattle.pack.specs.declared.answer.Refusal.{Refusal}
+use Rattle.laws.specs.declared.refusal.Refusal.{Refusal}
 use Rattle.pack.specs.declared.answer.Reading.{Reading}
 use Rattle.pack.specs.declared.answer.Reading.the-variants.{Pack, Refused}
 use Rattle.rows.specs.Types.{faultOf, typeRule}
@@ -25,7 +25,7 @@ use Rattle.rows.specs.Expressions.{expressionRule}
 use Rattle.rows.specs.Roots.{rootRule}
 use Rattle.rows.specs.Values.{valueRule}
 use Rattle.rows.specs.Tables.{rowRule, tableOf, rowsOf}
-use Rattle.formed.specs.Nodes.{nodesOf}
+use Rattle.trees.specs.Nodes.{nodesOf}
 use Rattle.formed.specs.Formed.{treesOf, bodyOf, formedOf}
 use Rattle.type_cycle.specs.Cycles.{unresolvedOf, cycleOf, typeCyclesOf}
 use Rattle.entries.specs.Numbers.{ofPack, ofTypes, ofRules, ofRoot, ofOrder}

@@ -23,7 +23,7 @@ use Rattle.pack.specs.Answer.{passes}
 use Rattle.pack.specs.Header.{countsOf}
 use Rattle.pack.specs.Named.{refsOf}
 use Rattle.pack.specs.declared.counts.Counts.{Counts}
-use Rattle.pack.specs.declared.answer.Refusal.{Refusal}
+use Rattle.laws.specs.declared.refusal.Refusal.{Refusal}
 use Rattle.pack.specs.declared.answer.Reading.{Reading}
 use Rattle.pack.specs.declared.answer.Reading.the-variants.{Pack, Refused}
 use Rattle.formed.specs.Formed.{formedOf}
@@ -32,9 +32,9 @@ use Rattle.type_cycle.specs.Cycles.{typeCyclesOf}
 use Rattle.type_cycle.specs.Walks.{Says}
 use Rattle.type_cycle.proofs.Promises.{says}
 use Rattle.components.specs.Account.{Lists, Orderable, Refuses, is₅₀, is₅₁, is₅₂}
+use Rattle.tarjan.specs.Values.{kindOf}
 use Rattle.value_cycle.specs.Area.{readBack}
 use Rattle.value_cycle.specs.Order.{Outcome, orderOf as listingOf}
-use Rattle.value_cycle.specs.Values.{kindOf}
 use Rattle.value_cycle.specs.declared.answer.Order.{Order}
 use Rattle.value_cycle.specs.declared.answer.Order.the-variants as order
 use Rattle.value_cycle.proofs.Promises.{Promised}

@@ -21,12 +21,13 @@ use Rattle.pack.specs.Answer.{needs, passes}
 use Rattle.pack.specs.Counts.{inLimits}
 use Rattle.pack.specs.Header.{countsOf, headerOf}
 use Rattle.pack.specs.declared.counts.Counts.{Counts}
-use Rattle.pack.specs.declared.answer.Refusal.{Refusal}
+use Rattle.laws.specs.declared.refusal.Refusal.{Refusal}
 use Rattle.pack.specs.declared.answer.Reading.{Reading}
 use Rattle.pack.specs.declared.answer.Reading.the-variants.{Pack, Refused}
 use Rattle.pack.proofs.HeaderLaws.{header-is, header-passed}
 use Rattle.rows.specs.Tables.{rowsOf}
-use Rattle.rows.proofs.TableLaws.{limited}
+use Rattle.pack.proofs.CountLaws.{limited}
+use Rattle.pack.proofs.HeaderLaws.{kept}
 use Rattle.rows.proofs.Promises.{parts-smaller}
 use Rattle.formed.specs.Formed.{bodyOf, formedOf}
 use Rattle.formed.proofs.Promises.{well-formed, after-header}
@@ -37,11 +38,6 @@ use Rattle.type_cycle.specs.Walks.{Says, unresolved, cyclic, neither}
 use Rattle.type_cycle.proofs.Promises.{says}
 use Rattle.entries.specs.Ready.{readyToCheck, readyToOrder}
 use Rattle.entries.specs.Types.{typesAnswer}
-
--- a test that was passed
-kept : (b : Bool) (number : ℕ) (rest : Reading) → passes (needs b number rest) ≡ true → (b ≡ true) × (needs b number rest ≡ rest)
-unfolding needs
-kept b number rest e = by-test b (λ t. (t, sym (yes b rest _ t refl))) (λ f. absurd (fails (sym e ∙ ap passes (sym (no b rest _ f refl)))))
 
 -- an answer is a report or a refusal
 pub by-reading : (a : Reading) {P : Type 0} → ((c : Counts) → a ≡ Pack c → P) → ((r : Refusal) → a ≡ Refused r → P) → P

@@ -9,7 +9,7 @@ use Rattle.laws.specs.Bounded.{get}
 use Rattle.laws.specs.Lists.{In}
 use Rattle.laws.proofs.Choice.{by-test, fails}
 use Rattle.pack.specs.declared.counts.Counts.{Counts}
-use Rattle.pack.specs.declared.answer.Refusal.{Refusal}
+use Rattle.laws.specs.declared.refusal.Refusal.{Refusal}
 use Rattle.words.specs.Notes.{nodes, isSeen}
 use Rattle.words.proofs.Promises.{words-length, word-else}
 use Rattle.expr.specs.State.{State}

@@ -27,14 +27,14 @@ use Rattle.operators.specs.Operators.{compared, number, added, divided, remaind
 use Rattle.operators.specs.declared.plan.OperatorPlan.{OperatorPlan}
 use Rattle.members.specs.Places.{perhaps}
 use Rattle.members.specs.Types.{namedBy, isList}
-use Rattle.members.specs.Match.{subjectOf, payloadFault, armFault}
-use Rattle.members.specs.Record.{countedFault, fieldsFault, recordFault}
 use Rattle.members.specs.Field.{fieldIn, fieldOfDefinition, fieldOfType, accessedBy}
-use Rattle.members.specs.declared.answer.Fault.{Fault}
-use Rattle.members.specs.declared.answer.Subject.{Subject}
-use Rattle.members.specs.declared.answer.Subject.the-variants as subject
 use Rattle.members.specs.declared.answer.Accessed.{Accessed}
 use Rattle.members.specs.declared.answer.Accessed.the-variants as accessed
+use Rattle.arms.specs.Match.{subjectOf, payloadFault, armFault}
+use Rattle.arms.specs.declared.answer.Subject.{Subject}
+use Rattle.arms.specs.declared.answer.Subject.the-variants as subject
+use Rattle.records.specs.Record.{countedFault, fieldsFault, recordFault}
+use Rattle.records.specs.declared.answer.Fault.{Fault}
 use Rattle.expr.specs.State.{Env, State, Ans, Typing, done, refuseWith, cont, _then_, contWith, _gives_, resolving, typedMade, freshType, stepFor, unifyStep}
 use Rattle.expr.specs.Rules.{Run, bareRule, literalRule, slotRule, letType, letRule, stmtRule, stmtsRule, lastRule, blockRule, boolFirst, operandType, resultLast, rightRule, operatorRule, guardRule, bodyRule, armRule, armsRule, casesRule, subjectRule, matchRule, fieldsRule, recordRule, fieldTypeRule, accessedRule, fieldRule, returnedRule, returnRule, kindRule, nodeRule, exprRule}
 use Rattle.expr.specs.Root.{rootRule}

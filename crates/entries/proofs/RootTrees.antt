@@ -16,15 +16,15 @@ use Rattle.laws.specs.Lists.{count, In}
 use Rattle.laws.proofs.Choice.{by-eq}
 use Rattle.pack.specs.Rows.{rootRow}
 use Rattle.pack.specs.declared.counts.Counts.{Counts}
-use Rattle.pack.specs.declared.answer.Refusal.{Refusal}
+use Rattle.laws.specs.declared.refusal.Refusal.{Refusal}
 use Rattle.rows.proofs.Promises.{root-inside}
-use Rattle.formed.specs.Nodes.{maxDepth}
+use Rattle.trees.specs.Nodes.{maxDepth}
 use Rattle.formed.proofs.Promises.{WellFormed}
 use Rattle.words.specs.Notes.{nodes}
 use Rattle.words.specs.Words.{wordByte, wordOf, wordsArea}
 use Rattle.expr.specs.State.{Env, env, State, Ans}
 use Rattle.expr.specs.Rules.{exprRule}
-use Rattle.expr.specs.Root.{depth, start, rootRule, checkedAs, written, rootAnswerIn, rootAreaIn}
+use Rattle.expr.specs.Root.{start, rootRule, checkedAs, written, rootAnswerIn, rootAreaIn}
 use Rattle.expr.specs.Visits.{treeOf}
 use Rattle.expr.specs.declared.answer.Outcome.{Outcome}
 use Rattle.expr.specs.declared.answer.Step.{Step}
@@ -42,7 +42,7 @@ rootTree p c root = treeOf maxDepth p c (rootRow p c root .body)
 
 data Way (p : List ℕ) (c : Counts) (same marks : List ℕ) (body : ℕ) (a : Ans) : Type 0 where
   stops : (f : Refusal) → a .step ≡ Refused f → 16 ≤ f .number → Way p c same marks body a
-  goes : (ret : ℕ) (slots : List ℕ) → a ≡ exprRule depth (env p c same marks ret) body ret 0 (start slots) → Way p c same marks body a
+  goes : (ret : ℕ) (slots : List ℕ) → a ≡ exprRule maxDepth (env p c same marks ret) body ret 0 (start slots) → Way p c same marks body a
 
 module _ (p : List ℕ) (c : Counts) (same marks : List ℕ) (body : ℕ) where
   way-pick : (b : Bool) (x y : Ans) → Way p c same marks body x → Way p c same marks body y → Way p c same marks body (pick b x y)
@@ -98,11 +98,11 @@ module _ (p : List ℕ) (c : Counts) (f : WellFormed p c) (same marks : List ℕ
     way-words a o d (stops r e n) = absurd (no-report (ap checkedAs (sym e ∙ d)))
     way-words a o d (goes ret slots q) =
         let k : Env = env p c same marks ret in
-        let h : exprRule depth k body ret 0 (start slots) .step ≡ Done o = ap (λ (z : Ans). z .step) (sym q) ∙ d in
+        let h : exprRule maxDepth k body ret 0 (start slots) .step ≡ Done o = ap (λ (z : Ans). z .step) (sym q) ∙ d in
         subst Wrote (sym q)
         (record {
-          there = λ id j i m. report-there k f depth body ret 0 (start slots) inside refl h area id j i m long;
-          others = λ b n. report-else k f depth body ret 0 (start slots) inside refl h area b (by-eq (count (b / 4) (rootTree p c root)) 0 (λ z. z) (λ z. absurd (n (omega (arith, z)))));
+          there = λ id j i m. report-there k f maxDepth body ret 0 (start slots) inside refl h area id j i m long;
+          others = λ b n. report-else k f maxDepth body ret 0 (start slots) inside refl h area b (by-eq (count (b / 4) (rootTree p c root)) 0 (λ z. z) (λ z. absurd (n (omega (arith, z)))));
         })
 
     pub root-words : rootAnswerIn p c same marks root ≡ checked.Report → Words p c root (rootRule p c same marks root .st) area (rootAreaIn p c same marks root area)
@@ -124,7 +124,7 @@ module _ (p : List ℕ) (c : Counts) (f : WellFormed p c) (same marks : List ℕ
       let k : Env = env p c same marks ret in
       let h = root-plain k f root l in
       subst (λ (z : Ans). NotBy 13 (z .step) × NotBy 15 (z .step)) (sym q)
-      (not-by 13 _ (never-deep k f depth body ret 0 (start slots) (h .enough)), not-by 15 _ (never-stray k f depth body ret 0 (start slots) h))
+      (not-by 13 _ (never-deep k f maxDepth body ret 0 (start slots) (h .enough)), not-by 15 _ (never-stray k f maxDepth body ret 0 (start slots) h))
 
   pub root-avoids : (r : Refusal) → rootAnswerIn p c same marks root ≡ checked.Refused r → (r .number ≡ 13 → ⊥) × (r .number ≡ 15 → ⊥)
   unfolding rootAnswerIn

@@ -16,17 +16,17 @@ use Rattle.pack.specs.Read.{byteAt, wordAt, row32, row64, startsWith}
 use Rattle.pack.specs.Counts.{inLimits}
 use Rattle.pack.specs.Header.{countsOf, headerOf}
 use Rattle.pack.specs.Rows.{typeRow, definitionRow, expressionRow, rootRow, valueRow}
-use Rattle.pack.specs.Lists.{listWord, listLen, listItem}
+use Rattle.pack.specs.Lists.{listWord, listLen, listItem, pairOf}
 use Rattle.pack.specs.Named.{itemsOf, secondsOf, fieldsOf, fieldTypesOf, typePartsOf, partsOf, rowStatements, rowOperands}
-use Rattle.rows.specs.Lists.{listFits, idsFit, itemsFit}
-use Rattle.rows.specs.Names.{namesDiffer, itemsRise}
+use Rattle.lists.specs.Lists.{listFits, idsFit, itemsFit}
+use Rattle.lists.specs.Names.{namesDiffer, itemsRise}
 use Rattle.rows.specs.Types.{primitive, typeKnown, namedFits, typeInRange, typeDistinct, typeRule}
 use Rattle.rows.specs.Definitions.{definitionKind, definitionKnown, definitionInRange, definitionDistinct, definitionRule}
 use Rattle.rows.specs.Expressions.{unused, kindKnown, expressionKnown, expressionInRange, expressionRule}
 use Rattle.rows.specs.Roots.{rootInRange, rootRule}
 use Rattle.rows.specs.Values.{valueRule}
 use Rattle.rows.specs.Tables.{rowRule, tableOf, rowsOf}
-use Rattle.formed.specs.Nodes.{bodiesOf, usesOf, statedOf, parentOf, depthIn, depthOf, nodeFits, nodesOf}
+use Rattle.trees.specs.Nodes.{bodiesOf, usesOf, statedOf, parentOf, depthIn, depthOf, nodeFits, nodesOf}
 use Rattle.formed.specs.Formed.{treesOf, bodyOf, formedOf}
 use Rattle.type_cycle.specs.Leads.{over, noneOf, inside, typesIn, namesIn}
 use Rattle.type_cycle.specs.Cycles.{resolved, leads, onCycle, unresolvedOf, cycleOf, typeCyclesOf}
@@ -43,11 +43,11 @@ use Rattle.structure.specs.Types.{varCode, plainCode, isBare, codeFor, codeOf, 
 use Rattle.unify.specs.Classes.{primitiveIn, isInt, isFloat, isNumeric, takes}
 use Rattle.unify.specs.Unify.{resolveOf, settled, numberPlan, anyPlan, planOf, unifyAnswer, unifyCells}
 use Rattle.operators.specs.Operators.{compared, number, added, divided, remainder, power, operatorPlan}
-use Rattle.members.specs.Lookup.{memberAt, isMember, memberOf}
+use Rattle.members.specs.Lookup.{isMember, memberOf}
 use Rattle.members.specs.Marks.{isMarked, anyMarked, anyFieldMarked}
-use Rattle.members.specs.Match.{subjectFor, subjectOf, payloadFault, armFault, covers, covered, missingVariants}
 use Rattle.members.specs.Places.{any as anyPlace, tally}
 use Rattle.members.specs.Types.{isRow, namedBy, isList}
+use Rattle.arms.specs.Match.{subjectFor, subjectOf, payloadFault, armFault, covers, covered, missingVariants}
 use Rattle.slots.specs.Slots.{opened, openAll, openList, openPairs, shut, closeList, letSlot, closeLets}
 use Rattle.words.specs.Notes.{noteOf, codeNoted, callNoted, divergesNoted, isSeen}
 use Rattle.words.specs.Words.{encode, wordByte, putWord, wordOf, seenIds, putWords, wordsArea}
@@ -159,7 +159,7 @@ unfolding
     any found first₅₀ first₅₁ first₅₂ answer meet meetAll enter reached follow followAll leave strongConnect tarjan bytesOf written answered listingOf
     letting get put selves setAnswer freshAnswer isLink trailIn trail foundIn compressed isVar numbered numberOf paired namesOf pairwise alike equalIn equal rowNumber isVarKind anyOf holdsIn holds varCode plainCode isBare codeFor codeOf codeIn holdsVar
     primitiveIn isInt isFloat isNumeric takes resolveOf settled numberPlan anyPlan planOf unifyAnswer unifyCells compared number added divided remainder power operatorPlan
-    memberAt isMember memberOf isMarked anyMarked anyFieldMarked subjectFor subjectOf payloadFault armFault covers covered missingVariants anyPlace tally isRow namedBy isList
+    pairOf isMember memberOf isMarked anyMarked anyFieldMarked subjectFor subjectOf payloadFault armFault covers covered missingVariants anyPlace tally isRow namedBy isList
     opened openAll openList openPairs shut closeList letSlot closeLets noteOf codeNoted callNoted divergesNoted isSeen encode wordByte putWord wordOf seenIds putWords wordsArea
     literalCode recorded sealed bareRule literalRule slotRule boolFirst operandType resultLast rightRule operatorRule guardRule payloadOpens payloadCloses bodyRule armRule endsArms armsRule casesRule matchRule kindRule nodeRule exprRule
     _then_ _gives_ resolving freshType unifyStep sameOf marksOf checkRule rootAnswerIn rootAreaIn

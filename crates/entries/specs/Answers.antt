@@ -1,7 +1,7 @@
 -- "Every answer is either a report or a refusal carrying number, place and detail (0 unless said)": as the host gets them, all 0 for a report.
 use Prim.Native.Nat.{ℕ}
 use mathlib.Core.List.{List}
-use Rattle.pack.specs.declared.answer.Refusal.{Refusal}
+use Rattle.laws.specs.declared.refusal.Refusal.{Refusal}
 use Rattle.pack.specs.declared.answer.Reading.{Reading}
 use Rattle.pack.specs.declared.answer.Reading.the-variants.{Pack, Refused}
 use Rattle.expr.specs.declared.answer.Checked.{Checked}

@@ -1,7 +1,7 @@
 // An answer as the host gets it: its number is returned, its place and detail are written where the host reads them.
 ghost use mathlib.Core.Path.{_≡_};
 ghost use Rattle.entries.specs.Answers.{told, report as reported, refusal as refusalTold};
-use pack::Refusal;
+use laws::Refusal;
 
 // The number of a report: no refusal has it.
 const REPORT: u32 = 0;

@@ -16,8 +16,8 @@ use Rattle.pack.specs.Rows.{rootRow}
 use Rattle.pack.specs.Named.{kidsOf}
 use Rattle.pack.specs.declared.counts.Counts.{Counts}
 use Rattle.rows.proofs.Promises.{root-inside}
-use Rattle.formed.specs.Nodes.{bodiesOf, parentOf, maxDepth}
-use Rattle.formed.proofs.TreeLaws.{at-row, uses-split, parent-is, parent-none}
+use Rattle.trees.specs.Nodes.{bodiesOf, parentOf, maxDepth}
+use Rattle.trees.proofs.TreeLaws.{at-row, uses-split, parent-is, parent-none}
 use Rattle.formed.proofs.Promises.{WellFormed}
 use Rattle.expr.specs.Visits.{sum, treeOf}
 use Rattle.expr.proofs.Nodes.{kid-inside, body-free}

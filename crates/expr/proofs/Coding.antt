@@ -19,10 +19,10 @@ use Rattle.unionfind.proofs.States.{knows-other}
 use Rattle.structure.specs.Types.{codeIn}
 use Rattle.operators.specs.Operators.{boolCode, u8Code, u32Code, prefixCode}
 use Rattle.members.specs.Lookup.{memberOf}
-use Rattle.members.specs.Match.{armFault}
-use Rattle.members.specs.Record.{recordFault}
 use Rattle.members.specs.Field.{accessedBy}
 use Rattle.members.specs.declared.answer.Accessed.the-variants as accessed
+use Rattle.arms.specs.Match.{armFault}
+use Rattle.records.specs.Record.{recordFault}
 use Rattle.slots.specs.Slots.{opened, Opening, openList, openPairs, closeList, closeLets}
 use Rattle.slots.proofs.Stores.{put-all}
 use Rattle.slots.proofs.Promises.{opened-all, open-list-all, open-pairs-all, close-list-all, close-lets-all}

@@ -16,10 +16,10 @@ use Rattle.laws.specs.Lists.{In}
 use Rattle.laws.proofs.Members.{in-self}
 use Rattle.pack.specs.Rows.{expressionRow, rootRow}
 use Rattle.pack.specs.Named.{statementsOf, operandsOf, kidsOf}
-use Rattle.pack.specs.declared.answer.Refusal.{Refusal}
+use Rattle.laws.specs.declared.refusal.Refusal.{Refusal}
 use Rattle.rows.proofs.Promises.{root-inside}
-use Rattle.formed.specs.Nodes.{depthOf, maxDepth}
-use Rattle.formed.proofs.TreeLaws.{stated-body}
+use Rattle.trees.specs.Nodes.{depthOf, maxDepth}
+use Rattle.trees.proofs.TreeLaws.{stated-body}
 use Rattle.formed.proofs.Promises.{WellFormed}
 use Rattle.expr.specs.State.{Env, State, Ans, cont, _then_}
 use Rattle.expr.specs.Rules.{exprRule}

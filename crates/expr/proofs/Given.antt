@@ -1,6 +1,8 @@
 -- What a call in a rule is given, from what the calls before it ensured.
 --     cells-ready      no slots and notes
 --     given-recorded, given-settled, given-opened     a type was recorded or resolved, slots were opened
+--     given-typed      a type was asked for
+--     given-inner, own-inner, coded-inner     an expression was checked against it
 --     given-accessed   the type of a field
 --     plan-coded       the types of an operator's plan
 --     fielded-from, field-coded, fields-left    the types of the fields given to a record
@@ -23,19 +25,25 @@ use Rattle.operators.specs.Operators.{operatorPlan}
 use Rattle.operators.specs.declared.plan.OperatorPlan.{OperatorPlan}
 use Rattle.operators.proofs.Promises.{plan-codes}
 use Rattle.members.specs.Lookup.{memberOf}
-use Rattle.members.specs.Record.{recordFault}
-use Rattle.members.specs.Match.{armFault}
 use Rattle.members.specs.Field.{accessedBy}
-use Rattle.members.specs.declared.answer.Fault.{Fault}
 use Rattle.members.specs.declared.answer.Accessed.{Accessed}
 use Rattle.members.specs.declared.answer.Accessed.the-variants as accessed
+use Rattle.arms.specs.Match.{armFault}
+use Rattle.records.specs.Record.{recordFault}
+use Rattle.records.specs.declared.answer.Fault.{Fault}
 use Rattle.slots.specs.Slots.{slots, Opening, opening}
 use Rattle.words.specs.Notes.{nodes, codeNoted}
-use Rattle.expr.specs.State.{Env, State, st}
+use Rattle.expr.specs.State.{Env, State, Ans, Typing, st}
 use Rattle.expr.specs.Rules.{recorded, payloadOpens}
-use Rattle.expr.specs.Ready.{Coded, Ready, Given, Fielded}
+use Rattle.expr.specs.Ready.{Coded, Ready, Given, Fielded, Ran, Types, CellsType}
 use Rattle.expr.proofs.Coding.{MarkedIn, never-coded, bool-coded, u8-coded, u32-coded, prefix-coded, recorded-ready, payload-opens-ready, fielded, accessed-coded}
-use Rattle.expr.proofs.Keeps.{given-more}
+use Rattle.expr.specs.declared.answer.Outcome.{Outcome}
+use Rattle.expr.specs.declared.answer.Step.{Step}
+use Rattle.expr.specs.declared.answer.Step.the-variants.{Done}
+use Rattle.expr.specs.declared.answer.Typed.{Typed}
+use Rattle.expr.specs.declared.answer.Typed.the-variants as typed
+use Rattle.expr.proofs.Kept.{after, after-type, coded-more}
+use Rattle.expr.proofs.Keeps.{given-more, given-after, given-after-type}
 
 get-none : (n i : ℕ) → get n [] i ≡ 0
 unfolding get
@@ -68,6 +76,25 @@ module _ {e : Env} {vars : ℕ} {c s w : List ℕ} (g : Given e vars (st c s w))
   pub given-opened : (list name payload : ℕ) {ok : Bool} {l : List ℕ} {fault : ℕ} → fault ≡ armFault (e .p) (e .c) (e .marks) list name payload → fault ≡ 0
       → opening ok l ≡ payloadOpens (e .p) (e .c) (e .same) list name payload s → Given e vars (st c l w)
   given-opened list name payload f z q = given-more g (opened-as q (payload-opens-ready e list name payload (g .marked) (rw f at z) (g .ready)))
+
+-- a type was asked for, and then an expression checked against it and what it stands for resolved
+module _ {e : Env} {vars : ℕ} {c s w : List ℕ} (g : Given e vars (st c s w)) {rule : State → Typing} {t : Typed} {c1 : List ℕ} (f : CellsType vars rule c t c1)
+    {own more : ℕ} (q : t ≡ typed.Type own more) where
+  asked : Types vars (rule (st c s w)) t c1 s w
+  asked = f .ran s w (g .ready)
+
+  pub given-typed : Given e more (st c1 s w) × Coded more own
+  given-typed = (given-after-type g asked q, after-type asked q .1 .1)
+
+  module _ {a : Ans} {r : Step} {c2 s2 w2 : List ℕ} (i : Ran more a r c2 s2 w2) {o : Outcome} (d : r ≡ Done o) where
+    pub given-inner : Given e (o .vars) (st c2 s2 w2)
+    given-inner = given-after (given-typed .0) i d
+
+    pub own-inner : Coded (o .vars) own
+    own-inner = coded-more (after i d .0) (given-typed .1)
+
+    pub coded-inner : {x : ℕ} → Coded vars x → Coded (o .vars) x
+    coded-inner k = coded-more (after i d .0) (coded-more (after-type asked q .0) k)
 
 -- the field that was found
 pub given-accessed : {e : Env} {vars : ℕ} {s : State} → Given e vars s → (x name : ℕ) {t : ℕ} {a : Accessed} → a ≡ accessedBy (e .p) (e .c) (e .marks) x name → a ≡ accessed.Type t

@@ -12,10 +12,10 @@ use borrow.Author.Tests.{eqb-true}
 use Rattle.pack.specs.declared.rows.ExpressionRow.{ExpressionRow}
 use Rattle.unionfind.specs.declared.codes.Kind.the-variants.{Var}
 use Rattle.operators.proofs.Promises.{plan-codes}
-use Rattle.members.specs.Match.{subjectOf}
 use Rattle.members.specs.Field.{accessedBy}
-use Rattle.members.specs.declared.answer.Subject.{Subject}
-use Rattle.members.specs.declared.answer.Subject.the-variants as subject
+use Rattle.arms.specs.Match.{subjectOf}
+use Rattle.arms.specs.declared.answer.Subject.{Subject}
+use Rattle.arms.specs.declared.answer.Subject.the-variants as subject
 use Rattle.expr.specs.State.{Env, State, Ans, Typing, st}
 use Rattle.expr.specs.Rules.{Run, letRule, stmtRule, stmtsRule, lastRule, blockRule, rightRule, operatorRule, bodyRule, armRule, armsRule, casesRule, subjectRule, matchRule, fieldsRule, recordRule, fieldRule, returnedRule, returnRule, kindRule, nodeRule, exprRule}
 use Rattle.expr.specs.declared.answer.Outcome.{Outcome}

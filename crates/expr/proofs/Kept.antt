@@ -14,9 +14,9 @@ use lib.Dec.{ltb}
 use borrow.Author.Tests.{ltb-true, ltb-false}
 use Rattle.laws.specs.Choice.{pick, letting}
 use Rattle.laws.proofs.Choice.{by-test}
-use Rattle.pack.specs.declared.answer.Refusal.{Refusal}
+use Rattle.laws.specs.declared.refusal.Refusal.{Refusal}
 use Rattle.unionfind.specs.Cells.{capacity, Live}
-use Rattle.unionfind.specs.Codes.{ownCode, tagFor}
+use Rattle.unionfind.specs.Codes.{ownCode, tagFor, codes}
 use Rattle.unionfind.specs.declared.codes.Kind.{Kind}
 use Rattle.unionfind.specs.declared.codes.Kind.the-variants.{Var, IntVar, FloatVar}
 use Rattle.unionfind.specs.declared.answer.Answer.{Answer}
@@ -25,7 +25,6 @@ use Rattle.unionfind.proofs.States.{makes, makes-none}
 use Rattle.unify.specs.Unify.{resolveOf, settled, Resolves, unifyAnswer, unifyCells}
 use Rattle.unify.proofs.Resolving.{resolves}
 use Rattle.unify.proofs.Unifying.{unifies}
-use Rattle.words.specs.Notes.{codes}
 use Rattle.expr.specs.State.{State, Ans, Typing, st, ran, typedAs, withCells, done, cont, _then_, contWith, _gives_, resolving, freshType, stepFor, unifyStep}
 use Rattle.expr.specs.Rules.{Run}
 use Rattle.expr.specs.Ready.{Coded, Ready, After, AfterTyped, Ran, Types}

@@ -8,6 +8,7 @@ pub mod Steps
 pub mod Recursions
 pub mod Given
 pub mod Meets
+pub mod Paths
 pub mod Roots
 pub mod Numbers
 pub mod Walk

@@ -27,8 +27,8 @@ use Rattle.pack.specs.declared.rows.ExpressionRow.{ExpressionRow}
 use Rattle.rows.specs.Tables.{rowRule}
 use Rattle.rows.specs.Expressions.{kindKnown, expressionKnown, expressionRule}
 use Rattle.rows.proofs.Promises.{rule-passed}
-use Rattle.formed.specs.Nodes.{depthIn, depthOf}
-use Rattle.formed.proofs.TreeLaws.{at-row, uses-split, stated-kid}
+use Rattle.trees.specs.Nodes.{depthIn, depthOf}
+use Rattle.trees.proofs.TreeLaws.{at-row, uses-split, stated-kid}
 use Rattle.formed.proofs.Promises.{WellFormed}
 use Rattle.expr.proofs.Unmarked.{chosen}
 use Rattle.expr.proofs.Walk.{Each}

@@ -25,12 +25,12 @@ use Rattle.operators.specs.Operators.{operatorPlan}
 use Rattle.operators.proofs.Promises.{plan-number}
 use Rattle.members.specs.Types.{namedBy}
 use Rattle.members.specs.Places.{perhaps}
-use Rattle.members.specs.Match.{payloadFault, armFault}
-use Rattle.members.specs.Record.{countedFault, fieldsFault, recordFault}
 use Rattle.members.specs.Field.{fieldIn, fieldOfDefinition, fieldOfType, accessedBy}
-use Rattle.members.specs.declared.answer.Fault.{Fault}
 use Rattle.members.specs.declared.answer.Accessed.{Accessed}
 use Rattle.members.specs.declared.answer.Accessed.the-variants as accessed
+use Rattle.arms.specs.Match.{payloadFault, armFault}
+use Rattle.records.specs.Record.{countedFault, fieldsFault, recordFault}
+use Rattle.records.specs.declared.answer.Fault.{Fault}
 use Rattle.expr.specs.State.{typedMade, stepFor}
 use Rattle.expr.specs.declared.answer.Step.{Step}
 use Rattle.expr.specs.declared.answer.Step.the-variants.{Done, Refused}

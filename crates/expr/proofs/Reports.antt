@@ -13,7 +13,7 @@ use lib.ListN.{length, getD, replicate, length-replicate}
 use Rattle.laws.specs.Bounded.{get}
 use Rattle.laws.specs.Lists.{count, In}
 use Rattle.laws.proofs.Members.{by-le}
-use Rattle.formed.specs.Nodes.{maxDepth}
+use Rattle.trees.specs.Nodes.{maxDepth}
 use Rattle.formed.proofs.Promises.{WellFormed}
 use Rattle.words.specs.Notes.{nodes, isSeen}
 use Rattle.words.specs.Words.{wordByte, wordOf, wordsArea}

@@ -22,7 +22,7 @@ use Rattle.pack.specs.Rows.{rootRow}
 use Rattle.pack.specs.Lists.{listItem}
 use Rattle.pack.specs.declared.counts.Counts.{Counts}
 use Rattle.pack.specs.declared.rows.RootRow.{RootRow}
-use Rattle.pack.specs.declared.answer.Refusal.{Refusal}
+use Rattle.laws.specs.declared.refusal.Refusal.{Refusal}
 use Rattle.unionfind.specs.Cells.{capacity}
 use Rattle.unionfind.specs.Answers.{selves, Empties}
 use Rattle.structure.specs.Structure.{rows, rowNumber, holds}
@@ -37,7 +37,8 @@ use Rattle.words.specs.Words.{wordsArea}
 use Rattle.expr.specs.State.{env, State, Ans, st, ran, refuse}
 use Rattle.expr.specs.Rules.{exprRule}
 use Rattle.expr.specs.Ready.{Coded, Marked, Ready, Given}
-use Rattle.expr.specs.Root.{sameOf, marksOf, depth, start, rootRule, checkedAs, written, rootAnswerIn, rootAreaIn, rootAnswer, rootArea, Checks}
+use Rattle.trees.specs.Nodes.{maxDepth}
+use Rattle.expr.specs.Root.{sameOf, marksOf, start, rootRule, checkedAs, written, rootAnswerIn, rootAreaIn, rootAnswer, rootArea, Checks}
 use Rattle.expr.specs.declared.answer.Step.{Step}
 use Rattle.expr.specs.declared.answer.Step.the-variants.{Done, Refused}
 use Rattle.expr.specs.declared.answer.Outcome.{Outcome}
@@ -120,13 +121,13 @@ module _ {p : List ℕ} {c : Counts} {same marks area : List ℕ} (h : Checks p 
       unfolding rootRule
       at-slot n = lets _ q (no _ _ _ (sym m ∙ f) (lets _ e (lets _ opens (no _ _ _ n refl))))
 
-      pub at-body : ok ≡ true → {cells notes : List ℕ} → {len : ℕ} → Empties len cells → notes ≡ replicate nodes 0 → {a : Ans} → a ≡ exprRule depth (env p c same marks ret) (row .body) ret 0 (st cells l notes)
+      pub at-body : ok ≡ true → {cells notes : List ℕ} → {len : ℕ} → Empties len cells → notes ≡ replicate nodes 0 → {a : Ans} → a ≡ exprRule maxDepth (env p c same marks ret) (row .body) ret 0 (st cells l notes)
           → a ≡ rootRule p c same marks root
       unfolding rootRule
       at-body t {cells = cells} {notes = notes} u v a =
           lets _ q (no _ _ _ (sym m ∙ f) (lets _ e (lets _ opens (yes _ _ _ t
-          (a ∙ ap (λ (c1 : List ℕ). exprRule depth (env p c same marks ret) (row .body) ret 0 (st c1 l notes)) (u .cells)
-          ∙ ap (λ (w : List ℕ). exprRule depth (env p c same marks ret) (row .body) ret 0 (st (selves 0 capacity) l w)) v)))))
+          (a ∙ ap (λ (c1 : List ℕ). exprRule maxDepth (env p c same marks ret) (row .body) ret 0 (st c1 l notes)) (u .cells)
+          ∙ ap (λ (w : List ℕ). exprRule maxDepth (env p c same marks ret) (row .body) ret 0 (st (selves 0 capacity) l w)) v)))))
 
       -- ---- what the body is given
 

@@ -9,7 +9,7 @@
 use mathlib.Core.Path.{_≡_, sym, ap, _∙_}
 use mathlib.Core.List.{List}
 use Prim.Native.Nat.{ℕ}
-use Rattle.pack.specs.declared.answer.Refusal.{Refusal}
+use Rattle.laws.specs.declared.refusal.Refusal.{Refusal}
 use Rattle.unionfind.specs.Answers.{freshAnswer, Makes}
 use Rattle.unionfind.specs.declared.codes.Kind.{Kind}
 use Rattle.unionfind.specs.declared.answer.Made.{Made}

@@ -18,8 +18,8 @@ use Rattle.laws.proofs.Lists.{count-append, count-same, count-other, gather-in}
 use Rattle.laws.proofs.Members.{in-self, by-le}
 use Rattle.pack.specs.Named.{kidsOf}
 use Rattle.pack.specs.declared.counts.Counts.{Counts}
-use Rattle.formed.specs.Nodes.{parentOf, depthOf, maxDepth}
-use Rattle.formed.proofs.TreeLaws.{parent-is, parent-none}
+use Rattle.trees.specs.Nodes.{parentOf, depthOf, maxDepth}
+use Rattle.trees.proofs.TreeLaws.{parent-is, parent-none}
 use Rattle.formed.proofs.Promises.{WellFormed}
 use Rattle.expr.specs.Visits.{together, sum, treeOf}
 use Rattle.expr.proofs.Nodes.{kid-inside, kid-once, depth-some}

@@ -16,12 +16,14 @@ use Rattle.pack.specs.Rows.{definitionRow}
 use Rattle.pack.specs.declared.counts.Counts.{Counts}
 use Rattle.members.specs.Lookup.{nameAt, memberOf}
 use Rattle.members.specs.Marks.{isMarked, anyMarked, anyFieldMarked}
-use Rattle.members.specs.Match.{wild, armFault}
-use Rattle.members.specs.Record.{recordFault}
 use Rattle.members.specs.Field.{accessedBy}
 use Rattle.members.specs.declared.answer.Accessed.the-variants as accessed
 use Rattle.members.proofs.Counts.{any-none}
-use Rattle.members.proofs.Promises.{member-below, payload-right, arm-right, only-members, record-right, Unmarked, field-unmarked}
+use Rattle.members.proofs.Promises.{member-below, Unmarked, field-unmarked}
+use Rattle.arms.specs.Match.{wild, armFault}
+use Rattle.arms.proofs.Promises.{payload-right, arm-right}
+use Rattle.records.specs.Record.{recordFault}
+use Rattle.records.proofs.Promises.{only-members, record-right}
 
 -- ---- choices
 

@@ -22,8 +22,8 @@ use Rattle.laws.proofs.Lists.{count-same}
 use Rattle.laws.proofs.Members.{in-self, by-le}
 use Rattle.pack.specs.Rows.{expressionRow}
 use Rattle.pack.specs.Named.{statementsOf, operandsOf}
-use Rattle.rows.proofs.TableLaws.{limited}
-use Rattle.formed.specs.Nodes.{maxDepth}
+use Rattle.pack.proofs.CountLaws.{limited}
+use Rattle.trees.specs.Nodes.{maxDepth}
 use Rattle.formed.proofs.Promises.{WellFormed}
 use Rattle.words.specs.Notes.{nodes, noteOf, codeNoted, isSeen}
 use Rattle.words.proofs.Noting.{seen-noted}

@@ -14,7 +14,7 @@ use Prim.Native.Nat.{ℕ, zero, suc, _+_, _≤_}
 use native.Mathlib.Omega.{arith}
 use Rattle.laws.specs.Choice.{pick, letting}
 use Rattle.pack.specs.Rows.{expressionRow}
-use Rattle.pack.specs.declared.answer.Refusal.{Refusal}
+use Rattle.laws.specs.declared.refusal.Refusal.{Refusal}
 use Rattle.pack.specs.declared.counts.Counts.{Counts}
 use Rattle.unionfind.specs.declared.codes.Kind.{Kind}
 use Rattle.unionfind.specs.declared.codes.Kind.the-variants.{Var}

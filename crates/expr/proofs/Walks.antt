@@ -20,10 +20,10 @@ use Rattle.pack.specs.Rows.{expressionRow}
 use Rattle.pack.specs.Named.{optional, itemsOf, secondsOf, armKids, rowStatements, rowOperands, statementsOf, operandsOf, kidsOf}
 use Rattle.pack.specs.declared.rows.ExpressionRow.{ExpressionRow}
 use Rattle.unionfind.specs.declared.codes.Kind.the-variants.{Var}
-use Rattle.members.specs.Match.{subjectOf}
 use Rattle.members.specs.Field.{accessedBy}
-use Rattle.members.specs.declared.answer.Subject.{Subject}
-use Rattle.members.specs.declared.answer.Subject.the-variants as subject
+use Rattle.arms.specs.Match.{subjectOf}
+use Rattle.arms.specs.declared.answer.Subject.{Subject}
+use Rattle.arms.specs.declared.answer.Subject.the-variants as subject
 use Rattle.expr.specs.State.{Env, State, Ans, withNotes, refuse}
 use Rattle.expr.specs.Rules.{Run, recorded, letRule, stmtRule, stmtsRule, lastRule, blockRule, rightRule, operatorRule, guardRule, bodyRule, armRule, armsRule, casesRule, subjectRule, matchRule, fieldsRule, recordRule, fieldRule, returnedRule, returnRule, kindRule, nodeRule}
 use Rattle.expr.specs.Visits.{sum}

@@ -12,7 +12,8 @@ use Rattle.structure.specs.Types.{codeIn}
 use Rattle.members.specs.Lookup.{memberOf}
 use Rattle.members.specs.Marks.{isMarked}
 use Rattle.slots.specs.Slots.{slots as slotCount}
-use Rattle.words.specs.Notes.{nodes, codes, codeNoted}
+use Rattle.unionfind.specs.Codes.{codes}
+use Rattle.words.specs.Notes.{nodes, codeNoted}
 use Rattle.expr.specs.State.{Env, State, Ans, Typing, st, ran, typedAs}
 use Rattle.expr.specs.declared.answer.Step.{Step}
 use Rattle.expr.specs.declared.answer.Step.the-variants.{Done, Refused}

@@ -8,6 +8,7 @@ use Rattle.laws.specs.Choice.{pick, letting}
 use Rattle.laws.specs.Lists.{bit, gather}
 use Rattle.pack.specs.Rows.{rootRow}
 use Rattle.pack.specs.declared.counts.Counts.{Counts}
+use Rattle.trees.specs.Nodes.{maxDepth}
 use Rattle.unionfind.specs.Cells.{capacity}
 use Rattle.unionfind.specs.Answers.{selves}
 use Rattle.structure.specs.Structure.{rows, PartsSmaller, rowNumber, holds}
@@ -35,10 +36,6 @@ marksOf p c = gather (λ k. pick (ltb k (c .types)) (bit (holds p c k)) 0 ∷ []
 
 -- ---- checking
 
--- "depth over 64 (a root body has 1)"
-abbrev pub depth : ℕ
-depth = 64
-
 -- no variable in use, no slot bound, no node seen
 abbrev pub start : List ℕ → State
 start slots = st (selves 0 capacity) slots (replicate nodes 0)
@@ -51,7 +48,7 @@ rootRule p c same marks root =
     (letting (codeIn p c same (r .returns)) λ ret.
     letting (openPairs p c same (r .list) (replicate slots 0)) λ o.
     pick (o .ok)
-    (exprRule depth (env p c same marks ret) (r .body) ret 0 (start (o .slots)))
+    (exprRule maxDepth (env p c same marks ret) (r .body) ret 0 (start (o .slots)))
     (refuse 34 (r .body) (start (o .slots))))
 
 -- ---- answering

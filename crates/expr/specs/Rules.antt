@@ -21,13 +21,13 @@ use Rattle.operators.specs.Operators.{boolCode, operatorPlan}
 use Rattle.members.specs.Types.{isList}
 use Rattle.members.specs.Lookup.{memberOf}
 use Rattle.members.specs.Marks.{isMarked}
-use Rattle.members.specs.Match.{wild, subjectOf, armFault, missingVariants}
-use Rattle.members.specs.Record.{recordFault}
 use Rattle.members.specs.Field.{accessedBy}
-use Rattle.members.specs.declared.answer.Subject.{Subject}
-use Rattle.members.specs.declared.answer.Subject.the-variants as subject
 use Rattle.members.specs.declared.answer.Accessed.{Accessed}
 use Rattle.members.specs.declared.answer.Accessed.the-variants as accessed
+use Rattle.arms.specs.Match.{wild, subjectOf, armFault, missingVariants}
+use Rattle.arms.specs.declared.answer.Subject.{Subject}
+use Rattle.arms.specs.declared.answer.Subject.the-variants as subject
+use Rattle.records.specs.Record.{recordFault}
 use Rattle.slots.specs.Slots.{slots as slotCount, unbound, opened, Opening, openList, closeList, closeLets}
 use Rattle.words.specs.Notes.{nodes, noteOf, codeNoted}
 use Rattle.expr.specs.State.{Env, State, Ans, Typing, withSlots, withNotes, done, refuse, refuseWith, _then_, _gives_, resolving, freshType, unifyStep}

@@ -1,7 +1,7 @@
 // The answers of module 4: a step of a rule, a type to check against, and the whole root.
 ghost use mathlib.Core.Path.{_≡_};
 ghost use Rattle.expr.specs.State.{outcome};
-use pack::Refusal;
+use laws::Refusal;
 
 // A node or a part of a rule that is accepted: whether it diverges, the call that its operator chose, and how many variables are in use.
 pub struct Outcome {

@@ -16,15 +16,15 @@ use Rattle.pack.specs.Header.{countsOf, headerOf}
 use Rattle.pack.specs.Rows.{typeRow, definitionRow, expressionRow, rootRow, valueRow}
 use Rattle.pack.specs.Lists.{listWord, listLen, listItem}
 use Rattle.pack.specs.Named.{itemsOf, secondsOf, rowStatements, rowOperands}
-use Rattle.rows.specs.Lists.{listFits, idsFit, itemsFit}
-use Rattle.rows.specs.Names.{namesDiffer, itemsRise}
+use Rattle.lists.specs.Lists.{listFits, idsFit, itemsFit}
+use Rattle.lists.specs.Names.{namesDiffer, itemsRise}
 use Rattle.rows.specs.Types.{primitive, typeKnown, namedFits, typeInRange, typeDistinct, typeRule}
 use Rattle.rows.specs.Definitions.{definitionKind, definitionKnown, definitionInRange, definitionDistinct, definitionRule}
 use Rattle.rows.specs.Expressions.{unused, kindKnown, expressionKnown, expressionInRange, expressionRule}
 use Rattle.rows.specs.Roots.{rootInRange, rootRule}
 use Rattle.rows.specs.Values.{valueRule}
 use Rattle.rows.specs.Tables.{rowRule, tableOf, rowsOf}
-use Rattle.formed.specs.Nodes.{bodiesOf, usesOf, statedOf, parentOf, depthIn, depthOf, nodeFits, nodesOf}
+use Rattle.trees.specs.Nodes.{bodiesOf, usesOf, statedOf, parentOf, depthIn, depthOf, nodeFits, nodesOf}
 use Rattle.formed.specs.Formed.{treesOf, bodyOf, formedOf}
 
 abbrev bytes : List ℕ → List ℕ

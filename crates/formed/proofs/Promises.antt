@@ -22,14 +22,14 @@ use Rattle.pack.specs.Named.{kidsOf}
 use Rattle.pack.specs.declared.counts.Counts.{Counts}
 use Rattle.pack.specs.declared.answer.Reading.{Reading}
 use Rattle.pack.specs.declared.answer.Reading.the-variants.{Pack, Refused}
-use Rattle.pack.proofs.HeaderLaws.{Headed, header-passed}
+use Rattle.pack.proofs.HeaderLaws.{Headed, header-passed, pack-same}
 use Rattle.rows.specs.Tables.{rowsOf}
 use Rattle.rows.proofs.Promises.{root-inside}
-use Rattle.formed.specs.Nodes.{bodiesOf, usesOf, statedOf, depthOf, maxDepth, nodeFits, nodesOf}
+use Rattle.trees.specs.Nodes.{bodiesOf, usesOf, statedOf, depthOf, maxDepth, nodeFits, nodesOf}
 use Rattle.formed.specs.Formed.{treesOf, bodyOf, formedOf}
-use Rattle.formed.specs.Trees.{Trees}
+use Rattle.trees.specs.Trees.{Trees}
 use Rattle.formed.proofs.Ready.{grown}
-use Rattle.formed.proofs.TreeLaws.{uses-split, depth-kid, depth-body}
+use Rattle.trees.proofs.TreeLaws.{uses-split, depth-kid, depth-body}
 
 pub record WellFormed (p : List ℕ) (c : Counts) : Type 0 where
   -- the counts are those of the bytes, within their limits, and the length is exact
@@ -56,9 +56,6 @@ node-passed p c number t e l = each (nodeFits p c number) (λ e. refuse number e
 node-is : (p : List ℕ) (c : Counts) (number : ℕ) → passes (nodesOf p c number) ≡ true → nodesOf p c number ≡ Pack c
 unfolding nodesOf
 node-is p c number t = none-is (nodeFits p c number) (λ e. refuse number e 0) (Pack c) 0 (c .expressions) (λ k a l. node-passed p c number t k l)
-
-pack-same : {x y : Counts} → Pack x ≡ Pack y → x ≡ y
-pack-same q = cc
 
 -- the parts of an answer that passed
 parts : (p : List ℕ) (c : Counts) → passes (bodyOf p c) ≡ true → (passes (rowsOf p c) ≡ true) × (passes (nodesOf p c 12) ≡ true) × (passes (nodesOf p c 15) ≡ true) × (passes (nodesOf p c 13) ≡ true)

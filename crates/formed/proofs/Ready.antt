@@ -12,9 +12,9 @@ use Rattle.pack.specs.declared.counts.Counts.{Counts}
 use Rattle.pack.specs.declared.answer.Reading.the-variants.{Pack}
 use Rattle.rows.specs.Tables.{rowsOf}
 use Rattle.rows.proofs.Promises.{kids-smaller}
-use Rattle.formed.specs.Nodes.{usesOf, nodeFits, nodesOf}
-use Rattle.formed.specs.Notes.{Notes}
-use Rattle.formed.specs.Trees.{Trees, Noted, Ready}
+use Rattle.trees.specs.Nodes.{usesOf, nodeFits, nodesOf}
+use Rattle.trees.specs.Notes.{Notes}
+use Rattle.trees.specs.Trees.{Trees, Noted, Ready}
 use Rattle.laws.specs.Choice.{pick}
 
 pub at-first-test : {p : List ℕ} {c : Counts} {s : Notes} → Noted p c 0 s → Ready p c 12 s

@@ -8,7 +8,7 @@ use Rattle.pack.specs.Header.{countsOf, headerOf}
 use Rattle.pack.specs.declared.counts.Counts.{Counts}
 use Rattle.pack.specs.declared.answer.Reading.{Reading}
 use Rattle.rows.specs.Tables.{rowsOf}
-use Rattle.formed.specs.Nodes.{nodesOf}
+use Rattle.trees.specs.Nodes.{nodesOf}
 
 -- "then 12, 15, 13 over all"
 unfoldable pub treesOf : List ℕ → Counts → Reading

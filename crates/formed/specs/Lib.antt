@@ -1,5 +1,1 @@
-pub mod Nodes
 pub mod Formed
-pub mod Notes
-pub mod Hops
-pub mod Trees

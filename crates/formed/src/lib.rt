@@ -1,7 +1,4 @@
 // What makes a pack well-formed: its header, its rows, and that its expressions are trees under its roots.
-mod hops;
-mod notes;
-mod trees;
 mod whole;
 
 pub use whole::formed;

@@ -6,19 +6,19 @@ ghost use Rattle.laws.specs.Answers.{after};
 ghost use Rattle.pack.specs.Answer.{passes};
 ghost use Rattle.pack.specs.Counts.{inLimits};
 ghost use Rattle.rows.specs.Tables.{rowsOf};
-ghost use Rattle.formed.specs.Nodes.{nodeFits, nodesOf};
-ghost use Rattle.formed.specs.Notes.{notes};
-ghost use Rattle.formed.specs.Trees.{Noted, Ready};
+ghost use Rattle.trees.specs.Nodes.{nodeFits, nodesOf};
+ghost use Rattle.trees.specs.Notes.{notes};
+ghost use Rattle.trees.specs.Trees.{Noted, Ready};
 ghost use Rattle.formed.specs.Formed.{bodyOf, formedOf, treesOf};
-use crate::hops::Hops;
-use crate::notes::Notes;
-use crate::trees::note_pack;
 use pack::Counts;
 use pack::Reading;
 use pack::expression_row;
 use pack::header;
 use pack::refused;
 use rows::rows;
+use trees::Hops;
+use trees::Notes;
+use trees::note_pack;
 
 // The numbers of what holds over all expressions, in the order in which they are asked.
 const USES: u32 = 12;

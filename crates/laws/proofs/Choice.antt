@@ -1,6 +1,7 @@
 -- The laws of a choice and of a named value: each takes one of them off the right side of a goal.
 --     yes, no      a choice whose test is known
 --     lets         a value that is named
+--     pick-all     what holds of both sides of a choice
 --     past-kinds   a kind past all rules
 --     by-eq        two numbers are equal or not
 --     by-test      a test holds or fails
@@ -25,6 +26,11 @@ yes b x y t e = rw t e
 pub no : {A : Type 0} {z : A} (b : Bool) (x y : A) → b ≡ false → z ≡ y → z ≡ pick b x y
 unfolding pick
 no b x y f e = rw f e
+
+pub pick-all : {A : Type 0} (Q : A → Type 0) (b : Bool) {x y : A} → Q x → Q y → Q (pick b x y)
+unfolding pick
+pick-all Q true p q = p
+pick-all Q false p q = q
 
 pub lets : {A B : Type 0} {x y : A} {z : B} (k : A → B) → x ≡ y → z ≡ k x → z ≡ letting y k
 unfolding letting

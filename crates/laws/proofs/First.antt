@@ -138,12 +138,19 @@ until-is ok i n l = let e : i + (n - i) ≡ n = omega arith in go (n - i) i e
         at : until ok i n ≡ pick (ok i) (until ok (i + 1) n) i
         at = first-at ok (λ k. k) n i n (omega arith)
 
--- what a test of each place says where it holds
+-- what a test of each place says where it holds, of the places from i on and of all
+module _ (ok : ℕ → Bool) (i n : ℕ) where
+  pub all-in : all ok i n ≡ true → (k : ℕ) → i ≤ k → k < n → ok k ≡ true
+  all-in e k l h = each ok (λ j. false) true (λ b. b) (λ j f. refl) n i e k l h
+
+  pub all-of : ((k : ℕ) → i ≤ k → k < n → ok k ≡ true) → all ok i n ≡ true
+  all-of r = none-is ok (λ j. false) true i n r
+
 pub all-each : (ok : ℕ → Bool) (n : ℕ) → all ok 0 n ≡ true → (k : ℕ) → k < n → ok k ≡ true
-all-each ok n t k l = each ok (λ j. false) true (λ b. b) (λ j f. refl) n 0 t k (omega arith) l
+all-each ok n t k l = all-in ok 0 n t k (omega arith) l
 
 pub all-true : (ok : ℕ → Bool) (n : ℕ) → ((k : ℕ) → k < n → ok k ≡ true) → all ok 0 n ≡ true
-all-true ok n r = none-is ok (λ j. false) true 0 n (λ k a b. r k b)
+all-true ok n r = all-of ok 0 n (λ k a b. r k b)
 
 -- a place that fails makes it fail
 pub all-false : (ok : ℕ → Bool) (k n : ℕ) → k < n → ok k ≡ false → all ok 0 n ≡ false

@@ -1,7 +1,6 @@
 -- Tests that are equal: two that say each other, joined ones, and a test of each place of a range.
 --     same-test           two tests of which each says the other
 --     or-right            the second of two, where the first fails
---     all-in, all-of      a test of each place, and what it says of one
 --     same-all, all-same  two tests of each place, equal place by place
 --     all-both            two tests of each place as one
 -- Assumes nothing.
@@ -11,7 +10,7 @@ use mathlib.Core.Bool.{Bool, true, false, _&&_, _||_}
 use native.Mathlib.Omega.{arith}
 use Rattle.laws.specs.First.{all}
 use Rattle.laws.proofs.Choice.{fails, and-both}
-use Rattle.laws.proofs.First.{each, none-is}
+use Rattle.laws.proofs.First.{all-in, all-of}
 
 pub and-true : (a : Bool) → (a && true) ≡ a
 and-true true = refl
@@ -35,13 +34,6 @@ same-test true true f g = refl
 same-test true false f g = sym (f refl)
 same-test false true f g = g refl
 same-test false false f g = refl
-
-module _ (ok : ℕ → Bool) (i n : ℕ) where
-  pub all-in : all ok i n ≡ true → (k : ℕ) → i ≤ k → k < n → ok k ≡ true
-  all-in e k l h = each ok (λ j. false) true (λ b. b) (λ j f. refl) n i e k l h
-
-  pub all-of : ((k : ℕ) → i ≤ k → k < n → ok k ≡ true) → all ok i n ≡ true
-  all-of r = none-is ok (λ j. false) true i n r
 
 -- a test of the n places from a on
 pub same-all : (f g : ℕ → Bool) (a n : ℕ) → ((k : ℕ) → k < n → f (a + k) ≡ g k) → all f a (a + n) ≡ all g 0 n

@@ -1,8 +1,12 @@
-// What the code of all layers shares: tests that are all asked first and then joined.
+// What the code of all layers shares: tests that are all asked first and then joined, and the refusal that they lead to.
 ghost use mathlib.Core.Path.{_≡_};
 ghost use mathlib.Core.Bool.{_&&_, _||_};
 ghost use Rattle.laws.specs.Choice.{pick};
 ghost use Rattle.laws.specs.Lists.{bit};
+
+mod refusal;
+
+pub use refusal::Refusal;
 
 // Whether both tests hold.
 pub fn both(a: bool, b: bool) -> bool

@@ -11,16 +11,16 @@ use Prim.Native.Nat.{ℕ, _+_, _*_, _<_, _≤_}
 use native.Mathlib.Omega.{arith}
 use lib.Dec.{eqb}
 use Rattle.laws.proofs.First.{until-is}
-use Rattle.pack.specs.Read.{Reads}
+use Rattle.laws.specs.Bounded.{Reads}
 use Rattle.pack.specs.Rows.{typeRow}
 use Rattle.laws.proofs.Told.{lt, nlt}
-use Rattle.pack.specs.Lists.{listLen, listItem}
+use Rattle.pack.specs.Lists.{listLen, listItem, pairOf}
 use Rattle.pack.specs.declared.counts.Counts.{Counts}
 use Rattle.pack.specs.declared.rows.TypeRow.{TypeRow}
-use Rattle.members.specs.Lookup.{nameAt, memberAt, isMember, memberOf}
+use Rattle.members.specs.Lookup.{nameAt, isMember, memberOf}
 
-pub member-high : (p : List ℕ) (c : Counts) (list name : ℕ) → memberAt p c list name ≤ listLen p c list
-unfolding memberAt
+pub member-high : (p : List ℕ) (c : Counts) (list name : ℕ) → pairOf p c list name ≤ listLen p c list
+unfolding pairOf
 member-high p c list name = until-is (λ k. not (eqb (nameAt p c list k) name)) 0 (listLen p c list) (omega arith) .high
 
 pub names-is : (p : List ℕ) (i : ℕ) {r : TypeRow} → r ≡ typeRow p i → Reads (r .a) (typeRow p i .a) 16384
@@ -29,11 +29,11 @@ names-is p i {r = r} e = record { same = ap (λ (x : TypeRow). x .a) e; small = 
 
 -- a place found fits
 module _ (p : List ℕ) (c : Counts) (list name : ℕ) {n k : ℕ} where
-  pub place-small : Reads n (listLen p c list) 65536 → k ≡ memberAt p c list name → k < 65536
+  pub place-small : Reads n (listLen p c list) 65536 → k ≡ pairOf p c list name → k < 65536
   place-small r e = omega (arith, r .same, r .small, e, member-high p c list name)
 
 -- a look-up as the code asks it: where it found one, and the word beside the name
-module _ (p : List ℕ) (c : Counts) (list name : ℕ) {n k : ℕ} (r : Reads n (listLen p c list) 65536) (e : k ≡ memberAt p c list name) where
+module _ (p : List ℕ) (c : Counts) (list name : ℕ) {n k : ℕ} (r : Reads n (listLen p c list) 65536) (e : k ≡ pairOf p c list name) where
   pub finds : k < n → isMember p c list name ≡ true
   unfolding isMember
   finds h = lt e (r .same) h

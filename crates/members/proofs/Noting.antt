@@ -3,19 +3,15 @@
 --     note-more       one place more
 --     noted-is        a mark says that a place has the name
 --     member-any      a member is a name that some pair has
---     before-any      and one named before is one that an earlier pair has
---     covered-any     a variant is covered by `_` or by its name
---     wild-told       where `_` is noted none is missing
 -- Assumes nothing.
-use mathlib.Core.Path.{_≡_, refl, sym, ap, _∙_}
+use mathlib.Core.Path.{_≡_, refl, sym, _∙_}
 use mathlib.Core.List.{List}
-use mathlib.Core.Bool.{Bool, true, false, not, _&&_, _||_}
-use Prim.Native.Nat.{ℕ, _+_, _*_, _<_, _≤_}
+use mathlib.Core.Bool.{Bool, true, false, not, _||_}
+use Prim.Native.Nat.{ℕ, _+_, _<_, _≤_}
 use native.Mathlib.Omega.{arith}
 use lib.Dec.{eqb, ltb}
 use lib.ListN.{length-replicate}
 use borrow.Author.Tests.{not-true, not-false, eq-eqb, ne-eqb, ltb-true, lt-ltb}
-use Rattle.laws.specs.Choice.{pick}
 use Rattle.laws.specs.First.{until}
 use Rattle.laws.specs.Lists.{bit}
 use Rattle.laws.specs.Bounded.{get, put}
@@ -24,15 +20,13 @@ use Rattle.laws.proofs.Tests.{same-test, or-true, or-false}
 use Rattle.laws.proofs.First.{Until, until-is}
 use Rattle.laws.proofs.Bounded.{put-length, get-same, get-other}
 use Rattle.laws.proofs.Members.{by-le}
-use Rattle.pack.specs.Lists.{listLen, listItem}
+use Rattle.pack.specs.Lists.{listLen, pairOf}
 use Rattle.pack.specs.declared.counts.Counts.{Counts}
 use Rattle.structure.proofs.Arrays.{zeros-get}
 use Rattle.members.specs.Places.{any}
-use Rattle.members.specs.Lookup.{nameAt, memberAt, isMember}
-use Rattle.members.specs.Names.{names, blank, Noted, hasName, armHas, nobody, freeName}
-use Rattle.members.specs.Match.{wild, covers, covered, missingVariants}
-use Rattle.members.specs.Record.{namedBefore}
-use Rattle.members.proofs.Counts.{any-none, none-any, found-any, any-found, zero-tally}
+use Rattle.members.specs.Lookup.{isMember}
+use Rattle.members.specs.Names.{names, blank, Noted, hasName}
+use Rattle.members.proofs.Counts.{any-none, none-any, found-any, any-found}
 
 -- ---- tests of places
 
@@ -105,44 +99,5 @@ noted-is has n xs x t l = rw (t .marked x l) (not-bit (any (has x) n))
 
 module _ (p : List ℕ) (c : Counts) (list : ℕ) where
   pub member-any : (name : ℕ) → any (hasName p c list name) (listLen p c list) ≡ isMember p c list name
-  unfolding isMember memberAt
+  unfolding isMember pairOf
   member-any name = sym (first-below (hasName p c list name) (listLen p c list) (listLen p c list) (omega arith))
-
-  pub before-any : (j : ℕ) → j < listLen p c list → any (hasName p c list (nameAt p c list j)) j ≡ namedBefore p c list j
-  unfolding namedBefore memberAt
-  before-any j l = sym (first-below (hasName p c list (nameAt p c list j)) (listLen p c list) j (omega arith))
-
--- ---- arms
-
-module _ (p : List ℕ) (c : Counts) (arms : ℕ) where
-  arm-covers : (name j : ℕ) → covers p c arms name j ≡ (armHas p c arms wild j || armHas p c arms name j)
-  unfolding covers
-  arm-covers name j = go (eqb (listItem p c arms (4 * j + 2)) 0) (eqb (listItem p c arms (4 * j)) wild) (eqb (listItem p c arms (4 * j)) name)
-    where
-      go : (a b d : Bool) → (a && (b || d)) ≡ ((a && b) || (a && d))
-      go true b d = refl
-      go false b d = refl
-
-  pub covered-any : (name : ℕ) → (any (armHas p c arms wild) (listLen p c arms) || any (armHas p c arms name) (listLen p c arms)) ≡ covered p c arms name
-  unfolding covered
-  covered-any name = sym (any-or (armHas p c arms wild) (armHas p c arms name) (covers p c arms name) (listLen p c arms) (arm-covers name))
-
-  pub free-has : (j x : ℕ) → x < names → armHas p c arms x j ≡ eqb (freeName p c arms j) x
-  unfolding freeName pick
-  free-has j x l = go (eqb (listItem p c arms (4 * j + 2)) 0)
-    where
-      go : (a : Bool) → (a && eqb (listItem p c arms (4 * j)) x) ≡ eqb (pick a (listItem p c arms (4 * j)) nobody) x
-      go true = refl
-      go false = sym (ne-eqb nobody x (λ e. absurd (omega arith)))
-
-  -- as the code asks it
-  pub covered-told : (name : ℕ) {a b r : Bool} → r ≡ (a || b) → a ≡ any (armHas p c arms wild) (listLen p c arms) → b ≡ any (armHas p c arms name) (listLen p c arms)
-      → r ≡ covered p c arms name
-  covered-told name q f g = q ∙ rw (f, g) (covered-any name)
-
-  -- with `_` noted none is missing
-  pub wild-told : (list : ℕ) {b : Bool} (xs : List ℕ) → Noted (armHas p c arms) (listLen p c arms) xs → b ≡ not (eqb (get names xs wild) 0) → b ≡ true
-      → 0 ≡ missingVariants p c list arms
-  unfolding missingVariants
-  wild-told list xs t e h =
-      sym (zero-tally _ _ (λ k l. ap not (sym (covered-told (nameAt p c list k) refl (sym h ∙ e ∙ noted-is (armHas p c arms) (listLen p c arms) xs wild t (omega arith)) refl))))

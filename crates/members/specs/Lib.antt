@@ -3,6 +3,4 @@ pub mod Types
 pub mod Lookup
 pub mod Names
 pub mod Marks
-pub mod Match
-pub mod Record
 pub mod Field

@@ -1,14 +1,12 @@
 -- A mark for each name, set where a list has it: so that each list is read once, and not once for each name that is asked for.
 use mathlib.Core.Path.{_≡_}
 use mathlib.Core.List.{List}
-use mathlib.Core.Bool.{Bool, _&&_}
-use Prim.Native.Nat.{ℕ, _+_, _*_, _<_}
+use mathlib.Core.Bool.{Bool}
+use Prim.Native.Nat.{ℕ, _<_}
 use lib.Dec.{eqb}
 use lib.ListN.{length, replicate}
-use Rattle.laws.specs.Choice.{pick}
 use Rattle.laws.specs.Lists.{bit}
 use Rattle.laws.specs.Bounded.{get}
-use Rattle.pack.specs.Lists.{listItem}
 use Rattle.pack.specs.declared.counts.Counts.{Counts}
 use Rattle.members.specs.Places.{any}
 use Rattle.members.specs.Lookup.{nameAt}
@@ -28,14 +26,3 @@ pub record Noted (has : ℕ → ℕ → Bool) (n : ℕ) (marks : List ℕ) : Typ
 -- pair k has the name
 abbrev pub hasName : List ℕ → Counts → ℕ → ℕ → ℕ → Bool
 hasName p c list x k = eqb (nameAt p c list k) x
-
--- arm j has no guard, and its first word is x
-abbrev pub armHas : List ℕ → Counts → ℕ → ℕ → ℕ → Bool
-armHas p c arms x j = eqb (listItem p c arms (4 * j + 2)) 0 && eqb (listItem p c arms (4 * j)) x
-
--- what arm j covers by name, and what is no name where it has a guard
-abbrev pub nobody : ℕ
-nobody = 65536
-
-unfoldable pub freeName : List ℕ → Counts → ℕ → ℕ → ℕ
-freeName p c arms j = pick (eqb (listItem p c arms (4 * j + 2)) 0) (listItem p c arms (4 * j)) nobody

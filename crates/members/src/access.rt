@@ -2,7 +2,6 @@
 ghost use mathlib.Core.Path.{_≡_};
 ghost use Rattle.members.specs.Field.{fieldIn, fieldOfDefinition, fieldOfType, accessedBy};
 use crate::answer::Accessed;
-use crate::lists::member_at;
 use crate::marks::is_marked;
 use crate::types::is_row;
 use crate::types::named;
@@ -11,6 +10,7 @@ use pack::DefinitionRow;
 use pack::definition_row;
 use pack::list_item;
 use pack::list_len;
+use pack::pair_of;
 use pack::type_row;
 use structure::TypeTable;
 use unionfind::number_of;
@@ -32,7 +32,7 @@ fn field_in(
     ensures { λ r. ⌜ r ≡ fieldIn (now (pack .entry)) c (now (marks .entry)) list name ⌝ }
 {
     let n = list_len(pack, c, list);
-    let k = member_at(pack, c, list, name);
+    let k = pair_of(pack, c, list, name);
     if k < n {
         let field = list_item(pack, c, list, 2 * k + 1);
         if is_marked(marks, field) {

@@ -1,11 +1,12 @@
-// Lists of pairs, looked up by the name that comes first. All look-ups stand behind `member_at`.
+// Lists of pairs, looked up by the name that comes first. All look-ups stand behind `pair_of`.
 ghost use mathlib.Core.Path.{_≡_};
 ghost use Prim.Native.Nat.{_<_};
-ghost use Rattle.pack.specs.Read.{Reads};
-ghost use Rattle.members.specs.Lookup.{nameAt, memberAt, isMember, memberOf};
+ghost use Rattle.laws.specs.Bounded.{Reads};
+ghost use Rattle.members.specs.Lookup.{nameAt, isMember, memberOf};
 use pack::Counts;
 use pack::list_item;
 use pack::list_len;
+use pack::pair_of;
 
 // The name of pair k.
 pub fn name_at(pack: &[u8], c: Counts, list: u32, k: u32) -> u32
@@ -15,27 +16,12 @@ pub fn name_at(pack: &[u8], c: Counts, list: u32, k: u32) -> u32
     list_item(pack, c, list, 2 * k)
 }
 
-// The first pair of that name, the number of pairs if there is none.
-pub fn member_at(pack: &[u8], c: Counts, list: u32, name: u32) -> u32
-    ensures { λ r. ⌜ r ≡ memberAt (now (pack .entry)) c list name ⌝ }
-{
-    let n = list_len(pack, c, list);
-    let mut k = 0;
-    while k < n {
-        if name_at(pack, c, list, k) == name {
-            return k;
-        }
-        k += 1;
-    }
-    n
-}
-
-// Whether there is one.
+// Whether a pair has that name.
 pub fn is_member(pack: &[u8], c: Counts, list: u32, name: u32) -> bool
     ensures { λ r. ⌜ r ≡ isMember (now (pack .entry)) c list name ⌝ }
 {
     let n = list_len(pack, c, list);
-    member_at(pack, c, list, name) < n
+    pair_of(pack, c, list, name) < n
 }
 
 // The word that stands beside the name: a type, or the start of a variant's list of field types.
@@ -43,6 +29,6 @@ pub fn member_of(pack: &[u8], c: Counts, list: u32, name: u32) -> u32
     ensures { λ r. ⌜ r ≡ memberOf (now (pack .entry)) c list name ⌝ }
 {
     let n = list_len(pack, c, list);
-    let k = member_at(pack, c, list, name);
+    let k = pair_of(pack, c, list, name);
     list_item(pack, c, list, 2 * k + 1)
 }

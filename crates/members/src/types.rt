@@ -1,6 +1,6 @@
 // What a resolved type names: the definition of a named type.
 ghost use mathlib.Core.Path.{_≡_};
-ghost use Rattle.pack.specs.Read.{Reads};
+ghost use Rattle.laws.specs.Bounded.{Reads};
 ghost use Rattle.pack.specs.Rows.{typeRow};
 ghost use Rattle.unionfind.specs.Codes.{number};
 ghost use Rattle.members.specs.Types.{isRow, namedBy, isList};

@@ -4,17 +4,13 @@ use Prim.Native.Nat.{ℕ, zero, suc}
 use mathlib.Core.Bool.{Bool, true, false}
 use mathlib.Core.List.{List, [], _∷_}
 use lib.Dec.{eqb}
+use Rattle.laws.proofs.Choice.{pick-all}
 use Rattle.laws.specs.Choice.{pick, byKind}
 use Rattle.unify.specs.Classes.{isInt, isNumeric}
 use Rattle.operators.specs.Operators.{stringCode, ipAddrCode, boolCode, prefixCode, u8Code, u32Code, noCall, prefixNew, stringAppend, listConcat, accepted, refused, logical, compared, number, added, divided, remainder, power, operatorPlan}
 use Rattle.operators.specs.declared.plan.OperatorPlan.{OperatorPlan}
 
 -- what holds of both sides of a choice
-pick-all : {A : Type 0} (Q : A → Type 0) (b : Bool) {x y : A} → Q x → Q y → Q (pick b x y)
-unfolding pick
-pick-all Q true p q = p
-pick-all Q false p q = q
-
 -- what holds of each rule's answer, and of the answer past the rules
 Each : {R A : Type 0} → (A → Type 0) → R → A → List (R → A) → Type 0
 Each Q r other [] = Q other

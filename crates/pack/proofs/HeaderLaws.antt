@@ -21,7 +21,7 @@ pub record Headed (p : List ℕ) (c : Counts) : Type 0 where
   pub exact : length p ≡ sizeOf c
 
 -- a test that was passed
-kept : (b : Bool) (number : ℕ) (rest : Reading) → passes (needs b number rest) ≡ true → (b ≡ true) × (needs b number rest ≡ rest)
+pub kept : (b : Bool) (number : ℕ) (rest : Reading) → passes (needs b number rest) ≡ true → (b ≡ true) × (needs b number rest ≡ rest)
 unfolding needs pick
 kept true number rest e = (refl, refl)
 kept false number rest e = absurd (fails (sym e))
@@ -38,11 +38,11 @@ header-passed p t =
     let exact = kept _ 4 _ (ap passes (sym (so-far ∙ limited .1)) ∙ t) in
     (so-far ∙ limited .1 ∙ exact .1, record { counts = refl; limits = limited .0; exact = eqb-true _ _ (exact .0) })
 
+pub pack-same : {x y : Counts} → Pack x ≡ Pack y → x ≡ y
+pack-same q = cc
+
 pub header-is : (p : List ℕ) (c : Counts) → headerOf p ≡ Pack c → Headed p c
 header-is p c e =
     let h = header-passed p (ap passes e) in
     let same : c ≡ countsOf p = pack-same (sym e ∙ h .0) in
     rw same (h .1)
-  where
-    pack-same : {x y : Counts} → Pack x ≡ Pack y → x ≡ y
-    pack-same q = cc

@@ -1,6 +1,5 @@
 -- "Fields are bit-packed, most significant first; words are big-endian." Past the end every byte reads 0.
-use Prim.Native.Nat.{ℕ, _+_, _*_, _/_, _%_, _^_, _<_}
-use mathlib.Core.Path.{_≡_}
+use Prim.Native.Nat.{ℕ, _+_, _*_, _/_, _%_, _^_}
 use mathlib.Core.Bool.{Bool}
 use mathlib.Core.List.{List}
 use lib.Dec.{eqb}
@@ -30,8 +29,3 @@ last row width = row % 2 ^ width
 -- the bytes start with those of another list
 unfoldable pub startsWith : List ℕ → List ℕ → Bool
 startsWith p q = all (λ i. eqb (byteAt p i) (byteAt q i)) 0 (length q)
-
--- a number read: which one, and that it is below a limit (a list of numbers has no bound of its own)
-pub record Reads (r is below : ℕ) : Type 0 where
-  pub same : r ≡ is
-  pub small : r < below

@@ -2,12 +2,7 @@
 ghost use mathlib.Core.Path.{_≡_};
 ghost use Rattle.pack.specs.Answer.{refuse, needs};
 use crate::counts::Counts;
-
-pub struct Refusal {
-    pub number: u32,
-    pub place: u32,
-    pub detail: u64,
-}
+use laws::Refusal;
 
 pub enum Reading {
     Pack(Counts),

@@ -1,9 +1,10 @@
 // Numbers read from bytes, most significant byte first, 0 past the end.
 ghost use mathlib.Core.Path.{_≡_};
 ghost use Prim.Native.Nat.{_<_};
-ghost use Rattle.pack.specs.Read.{byteAt, wordAt, row32, row64, startsWith, Reads};
+ghost use Rattle.pack.specs.Read.{byteAt, wordAt, row32, row64, startsWith};
+ghost use Rattle.laws.specs.Bounded.{Reads};
 
-fn wide(b: u8) -> u32
+pub fn wide(b: u8) -> u32
     ensures { λ r. ⌜ Reads r b 256 ⌝ }
 {
     b as u32

@@ -1,6 +1,6 @@
 // The six counts of a header, their limits, and where the tables stand that they give the lengths of.
 ghost use mathlib.Core.Path.{_≡_};
-ghost use Rattle.pack.specs.Read.{Reads};
+ghost use Rattle.laws.specs.Bounded.{Reads};
 ghost use Rattle.pack.specs.Counts.{none, inLimits, definitionsAt, expressionsAt, rootsAt, valuesAt, listsAt, sizeOf};
 use laws::both;
 

@@ -5,15 +5,16 @@ mod bytes;
 mod counts;
 mod head;
 mod lists;
+mod pairs;
 mod rows;
 
 pub use answer::Reading;
-pub use answer::Refusal;
 pub use answer::refused;
 pub use counts::Counts;
 pub use head::header;
 pub use lists::list_item;
 pub use lists::list_len;
+pub use pairs::pair_of;
 pub use rows::DefinitionRow;
 pub use rows::ExpressionRow;
 pub use rows::RootRow;

@@ -1,5 +1,5 @@
 // Lists: a count word, then its items.
-ghost use Rattle.pack.specs.Read.{Reads};
+ghost use Rattle.laws.specs.Bounded.{Reads};
 ghost use Rattle.pack.specs.Lists.{listLen, listItem};
 use crate::bytes::word_at;
 use crate::counts::Counts;

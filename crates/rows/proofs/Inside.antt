@@ -20,11 +20,11 @@ use Rattle.pack.specs.Rows.{typeRow, definitionRow, expressionRow, rootRow, val
 use Rattle.pack.specs.declared.counts.Counts.{Counts}
 use Rattle.pack.specs.declared.rows.TypeRow.{TypeRow}
 use Rattle.pack.specs.declared.rows.ExpressionRow.{ExpressionRow}
-use Rattle.rows.specs.declared.lists.Items.{Items}
-use Rattle.rows.specs.declared.lists.Items.the-variants.{Ids, Pairs, Arms}
-use Rattle.rows.specs.Limits.{names, wild, slots, optionalBelow}
-use Rattle.rows.specs.Lists.{listFits, slotsFit, wordsOf, itemFits, itemsFit}
-use Rattle.rows.specs.Names.{nameAt, fresh, namesDiffer, itemsRise}
+use Rattle.lists.specs.declared.lists.Items.{Items}
+use Rattle.lists.specs.declared.lists.Items.the-variants.{Ids, Pairs, Arms}
+use Rattle.lists.specs.Limits.{names, wild, slots, optionalBelow}
+use Rattle.lists.specs.Lists.{listFits, slotsFit, wordsOf, itemFits, itemsFit}
+use Rattle.lists.specs.Names.{nameAt, fresh, namesDiffer, itemsRise}
 use Rattle.rows.specs.Types.{typeKnown, namedFits, typeInRange, typeDistinct, faultOf, typeRule}
 use Rattle.rows.specs.Definitions.{definitionKnown, definitionInRange, definitionDistinct, definitionRule}
 use Rattle.rows.specs.Expressions.{expressionKnown, expressionInRange, expressionRule}

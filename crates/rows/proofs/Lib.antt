@@ -1,8 +1,3 @@
-pub mod RunLaws
-pub mod PeakLaws
-pub mod ListLaws
-pub mod NameLaws
 pub mod RowLaws
-pub mod TableLaws
 pub mod Promises
 pub mod Inside

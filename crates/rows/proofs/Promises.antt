@@ -30,11 +30,11 @@ use Rattle.pack.specs.declared.rows.TypeRow.{TypeRow}
 use Rattle.pack.specs.declared.rows.DefinitionRow.{DefinitionRow}
 use Rattle.pack.specs.declared.rows.ExpressionRow.{ExpressionRow}
 use Rattle.pack.specs.declared.answer.Reading.the-variants.{Pack}
-use Rattle.rows.specs.declared.lists.Items.{Items}
-use Rattle.rows.specs.declared.lists.Items.the-variants.{Ids, Pairs, Variants, Arms}
-use Rattle.rows.specs.Limits.{optionalBelow, names, wild, slots, variables}
-use Rattle.rows.specs.Lists.{listFits, idsFit, slotsFit, wordsOf, itemFits, itemsFit}
-use Rattle.rows.specs.Names.{itemsRise}
+use Rattle.lists.specs.declared.lists.Items.{Items}
+use Rattle.lists.specs.declared.lists.Items.the-variants.{Ids, Pairs, Variants, Arms}
+use Rattle.lists.specs.Limits.{optionalBelow, names, wild, slots, variables}
+use Rattle.lists.specs.Lists.{listFits, idsFit, slotsFit, wordsOf, itemFits, itemsFit}
+use Rattle.lists.specs.Names.{itemsRise}
 use Rattle.rows.specs.Types.{typeInRange, namedFits, typeRule}
 use Rattle.rows.specs.Definitions.{definitionInRange, definitionRule}
 use Rattle.rows.specs.Expressions.{expressionInRange, expressionRule}

@@ -13,13 +13,13 @@ use Rattle.pack.specs.Lists.{listLen, listItem}
 use Rattle.pack.specs.declared.counts.Counts.{Counts}
 use Rattle.pack.specs.declared.rows.TypeRow.{TypeRow}
 use Rattle.pack.specs.declared.rows.DefinitionRow.{DefinitionRow}
-use Rattle.rows.specs.Limits.{names, variables}
-use Rattle.rows.specs.Lists.{listFits, wordsOf, idsFit, itemFits, itemsFit}
-use Rattle.rows.specs.Names.{Named}
+use Rattle.lists.specs.Limits.{names, variables}
+use Rattle.lists.specs.Lists.{listFits, wordsOf, idsFit, itemFits, itemsFit}
+use Rattle.lists.specs.Names.{Named}
 use Rattle.rows.specs.Types.{typeInRange, faultOf}
 use Rattle.rows.specs.Definitions.{definitionInRange}
-use Rattle.rows.specs.declared.lists.Items.{Items}
-use Rattle.rows.specs.declared.lists.Items.the-variants.{Ids, Pairs, Variants}
+use Rattle.lists.specs.declared.lists.Items.{Items}
+use Rattle.lists.specs.declared.lists.Items.the-variants.{Ids, Pairs, Variants}
 
 -- the last test counts only where the second one holds
 pub ruled : {known k ranged r q d : Bool} → known ≡ k → ranged ≡ r → (r ≡ true → q ≡ d) → faultOf known ranged q ≡ faultOf k r d

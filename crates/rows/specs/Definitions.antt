@@ -7,10 +7,10 @@ use Rattle.laws.specs.Choice.{byKind}
 use Rattle.pack.specs.Rows.{definitionRow}
 use Rattle.pack.specs.declared.counts.Counts.{Counts}
 use Rattle.pack.specs.declared.rows.DefinitionRow.{DefinitionRow}
-use Rattle.rows.specs.declared.lists.Items.the-variants.{Pairs, Variants}
-use Rattle.rows.specs.Limits.{names}
-use Rattle.rows.specs.Lists.{itemsFit}
-use Rattle.rows.specs.Names.{namesDiffer}
+use Rattle.lists.specs.declared.lists.Items.the-variants.{Pairs, Variants}
+use Rattle.lists.specs.Limits.{names}
+use Rattle.lists.specs.Lists.{itemsFit}
+use Rattle.lists.specs.Names.{namesDiffer}
 use Rattle.rows.specs.Types.{faultOf}
 
 -- 10: "Runtime, list: list unused."

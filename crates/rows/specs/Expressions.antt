@@ -8,9 +8,9 @@ use Rattle.laws.specs.Choice.{byKind}
 use Rattle.pack.specs.Rows.{expressionRow}
 use Rattle.pack.specs.declared.counts.Counts.{Counts}
 use Rattle.pack.specs.declared.rows.ExpressionRow.{ExpressionRow}
-use Rattle.rows.specs.declared.lists.Items.the-variants.{Ids, Pairs, Arms}
-use Rattle.rows.specs.Limits.{names, slots, literals, operators, optionalBelow}
-use Rattle.rows.specs.Lists.{itemsFit}
+use Rattle.lists.specs.declared.lists.Items.the-variants.{Ids, Pairs, Arms}
+use Rattle.lists.specs.Limits.{names, slots, literals, operators, optionalBelow}
+use Rattle.lists.specs.Lists.{itemsFit}
 use Rattle.rows.specs.Types.{faultOf}
 
 -- three fields that a kind does not use

@@ -1,8 +1,3 @@
-pub mod Limits
-pub mod Runs
-pub mod Lists
-pub mod Names
-pub mod Peaks
 pub mod Types
 pub mod Definitions
 pub mod Expressions

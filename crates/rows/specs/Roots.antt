@@ -6,9 +6,9 @@ use lib.Dec.{ltb, eqb}
 use Rattle.pack.specs.Rows.{rootRow}
 use Rattle.pack.specs.declared.counts.Counts.{Counts}
 use Rattle.pack.specs.declared.rows.RootRow.{RootRow}
-use Rattle.rows.specs.declared.lists.Items.the-variants.{Pairs}
-use Rattle.rows.specs.Limits.{slots}
-use Rattle.rows.specs.Lists.{itemsFit}
+use Rattle.lists.specs.declared.lists.Items.the-variants.{Pairs}
+use Rattle.lists.specs.Limits.{slots}
+use Rattle.lists.specs.Lists.{itemsFit}
 use Rattle.rows.specs.Types.{faultOf}
 
 unfoldable pub rootInRange : List ℕ → Counts → RootRow → Bool

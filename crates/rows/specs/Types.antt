@@ -9,10 +9,10 @@ use Rattle.pack.specs.Rows.{typeRow, definitionRow}
 use Rattle.pack.specs.Lists.{listLen}
 use Rattle.pack.specs.declared.counts.Counts.{Counts}
 use Rattle.pack.specs.declared.rows.TypeRow.{TypeRow}
-use Rattle.rows.specs.declared.lists.Items.the-variants.{Ids, Pairs}
-use Rattle.rows.specs.Limits.{names, explicits, variables}
-use Rattle.rows.specs.Lists.{itemsFit}
-use Rattle.rows.specs.Names.{namesDiffer}
+use Rattle.lists.specs.declared.lists.Items.the-variants.{Ids, Pairs}
+use Rattle.lists.specs.Limits.{names, explicits, variables}
+use Rattle.lists.specs.Lists.{itemsFit}
+use Rattle.lists.specs.Names.{namesDiffer}
 
 -- "Primitive: 0 String, .. 5 Prefix, 8 to 15 i8 .. u64, 16 f32, 17 f64."
 unfoldable pub primitive : ℕ → Bool

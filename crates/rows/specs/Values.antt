@@ -4,9 +4,9 @@ use mathlib.Core.List.{List}
 use lib.Dec.{eqb}
 use Rattle.pack.specs.Rows.{valueRow}
 use Rattle.pack.specs.declared.counts.Counts.{Counts}
-use Rattle.rows.specs.declared.lists.Items.the-variants.{Ids}
-use Rattle.rows.specs.Lists.{itemsFit}
-use Rattle.rows.specs.Names.{itemsRise}
+use Rattle.lists.specs.declared.lists.Items.the-variants.{Ids}
+use Rattle.lists.specs.Lists.{itemsFit}
+use Rattle.lists.specs.Names.{itemsRise}
 use Rattle.rows.specs.Types.{faultOf}
 
 unfoldable pub valueRule : List ℕ → Counts → ℕ → ℕ

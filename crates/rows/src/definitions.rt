@@ -1,15 +1,15 @@
 // The definition table: enums, records, runtime types and lists.
 ghost use mathlib.Core.Path.{_≡_};
 ghost use mathlib.Core.Bool.{true};
-ghost use Rattle.rows.specs.Peaks.{Peaks as PeaksOf};
+ghost use Rattle.lists.specs.Peaks.{Peaks as PeaksOf};
 ghost use Rattle.rows.specs.Definitions.{definitionKind, definitionKnown, definitionInRange, definitionDistinct, definitionRule};
-use crate::limits::NAMES;
-use crate::limits::fault_of;
-use crate::lists::Items;
-use crate::lists::items_fit;
-use crate::names::names_differ;
-use crate::peaks::Peaks;
+use crate::faults::fault_of;
 use laws::both;
+use lists::Items;
+use lists::NAMES;
+use lists::Peaks;
+use lists::items_fit;
+use lists::names_differ;
 use pack::Counts;
 use pack::DefinitionRow;
 use pack::definition_row;

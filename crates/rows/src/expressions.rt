@@ -1,17 +1,17 @@
 // The expression table: 9 kinds of nodes.
 ghost use mathlib.Core.Path.{_≡_};
-ghost use Rattle.rows.specs.Peaks.{Peaks as PeaksOf};
+ghost use Rattle.lists.specs.Peaks.{Peaks as PeaksOf};
 ghost use Rattle.rows.specs.Expressions.{unused as unusedOf, expressionKnown, kindKnown, expressionInRange, expressionRule};
-use crate::limits::LITERALS;
-use crate::limits::NAMES;
-use crate::limits::OPERATORS;
-use crate::limits::SLOTS;
-use crate::limits::fault_of;
-use crate::limits::optional_below;
-use crate::lists::Items;
-use crate::lists::items_fit;
-use crate::peaks::Peaks;
+use crate::faults::fault_of;
 use laws::both;
+use lists::Items;
+use lists::LITERALS;
+use lists::NAMES;
+use lists::OPERATORS;
+use lists::Peaks;
+use lists::SLOTS;
+use lists::items_fit;
+use lists::optional_below;
 use pack::Counts;
 use pack::ExpressionRow;
 use pack::expression_row;

@@ -1,13 +1,13 @@
 // The root table.
 ghost use mathlib.Core.Path.{_≡_};
-ghost use Rattle.rows.specs.Peaks.{Peaks as PeaksOf};
+ghost use Rattle.lists.specs.Peaks.{Peaks as PeaksOf};
 ghost use Rattle.rows.specs.Roots.{rootInRange, rootRule};
-use crate::limits::SLOTS;
-use crate::limits::fault_of;
-use crate::lists::Items;
-use crate::lists::items_fit;
-use crate::peaks::Peaks;
+use crate::faults::fault_of;
 use laws::both;
+use lists::Items;
+use lists::Peaks;
+use lists::SLOTS;
+use lists::items_fit;
 use pack::Counts;
 use pack::RootRow;
 use pack::root_row;

@@ -1,24 +1,16 @@
 // The five tables in their order, row by row: the first fault, or the counts.
 ghost use mathlib.Core.Path.{_≡_};
 ghost use mathlib.Core.Bool.{true};
-ghost use Prim.Native.Nat.{_≤_};
-ghost use lib.ListN.{length};
 ghost use Rattle.pack.specs.Counts.{inLimits};
-ghost use Rattle.rows.specs.Peaks.{Peaks as PeaksOf};
+ghost use Rattle.lists.specs.Peaks.{Peaks as PeaksOf};
 ghost use Rattle.rows.specs.Tables.{rowsIn, rowRule, tableOf, rowsOf};
 use crate::definitions::definition_rule;
-use crate::earlier::Marks;
-use crate::earlier::Places;
-use crate::earlier::fill_earlier;
 use crate::expressions::expression_rule;
-use crate::limits::SLOTS;
-use crate::peaks::Peaks;
-use crate::peaks::fill_peaks;
 use crate::roots::root_rule;
-use crate::runs::Runs;
-use crate::runs::fill_runs;
 use crate::types::type_rule;
 use crate::values::value_rule;
+use lists::Peaks;
+use lists::fill_tree;
 use pack::Counts;
 use pack::Reading;
 use pack::refused;
@@ -90,34 +82,11 @@ fn all_tables(pack: &[u8], c: Counts, peaks: &[u32; Peaks::CAPACITY]) -> Reading
     Reading::Pack(c)
 }
 
-// Fills the tree that all lists are judged by.
-fn fill(pack: &[u8], c: Counts, cells: &mut [u32; Peaks::CAPACITY])
-    requires { ⌜ (c .words ≤ 8184) × (length (now cells) ≡ 98304) ⌝ }
-    ensures { λ r. ⌜ PeaksOf (now (pack .entry)) c (now (cells .exit)) ⌝ }
-{
-    let mut field_runs = Runs::empty();
-    let mut slot_runs = Runs::empty();
-    let mut marks = Marks::empty();
-    let mut earlier = Places::empty();
-    let types = c.types;
-    fill_runs(pack, c, types, &mut field_runs.ends);
-    fill_runs(pack, c, SLOTS, &mut slot_runs.ends);
-    fill_earlier(pack, c, &mut marks.cells, &mut earlier.cells);
-    fill_peaks(
-        pack,
-        c,
-        &field_runs.ends,
-        &slot_runs.ends,
-        &earlier.cells,
-        cells,
-    );
-}
-
 pub fn rows(pack: &[u8], c: Counts) -> Reading
     requires { ⌜ inLimits c ≡ true ⌝ }
     ensures { λ r. ⌜ r ≡ rowsOf (now (pack .entry)) c ⌝ }
 {
     let mut peaks = Peaks::empty();
-    fill(pack, c, &mut peaks.cells);
+    fill_tree(pack, c, &mut peaks.cells);
     all_tables(pack, c, &peaks.cells)
 }

@@ -1,18 +1,18 @@
 // The type table: 11 kinds.
 ghost use mathlib.Core.Path.{_≡_};
 ghost use mathlib.Core.Bool.{true};
-ghost use Rattle.rows.specs.Peaks.{Peaks as PeaksOf};
+ghost use Rattle.lists.specs.Peaks.{Peaks as PeaksOf};
 ghost use Rattle.rows.specs.Types.{primitive, typeKnown, namedFits, typeInRange, typeDistinct, typeRule};
-use crate::limits::EXPLICITS;
-use crate::limits::NAMES;
-use crate::limits::VARIABLES;
-use crate::limits::fault_of;
-use crate::lists::Items;
-use crate::lists::items_fit;
-use crate::names::names_differ;
-use crate::peaks::Peaks;
+use crate::faults::fault_of;
 use laws::both;
 use laws::either;
+use lists::EXPLICITS;
+use lists::Items;
+use lists::NAMES;
+use lists::Peaks;
+use lists::VARIABLES;
+use lists::items_fit;
+use lists::names_differ;
 use pack::Counts;
 use pack::TypeRow;
 use pack::definition_row;

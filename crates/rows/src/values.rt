@@ -1,12 +1,12 @@
 // The value table.
 ghost use mathlib.Core.Path.{_≡_};
-ghost use Rattle.rows.specs.Peaks.{Peaks as PeaksOf};
+ghost use Rattle.lists.specs.Peaks.{Peaks as PeaksOf};
 ghost use Rattle.rows.specs.Values.{valueRule};
-use crate::limits::fault_of;
-use crate::lists::Items;
-use crate::lists::items_fit;
-use crate::names::items_rise;
-use crate::peaks::Peaks;
+use crate::faults::fault_of;
+use lists::Items;
+use lists::Peaks;
+use lists::items_fit;
+use lists::items_rise;
 use pack::Counts;
 use pack::value_row;
 

@@ -7,13 +7,12 @@ use native.Mathlib.Omega.{arith}
 use lib.Dec.{eqb, ltb}
 use Rattle.pack.specs.Rows.{typeRow}
 use Rattle.pack.specs.declared.counts.Counts.{Counts}
-use Rattle.unionfind.specs.Codes.{numbers, code, rowTag}
+use Rattle.unionfind.specs.Codes.{numbers, code, rowTag, codes}
 use Rattle.structure.specs.Structure.{numberOf}
 use Rattle.structure.specs.Table.{entry}
 use Rattle.structure.specs.Types.{varCode, plainCode, isBare, codeFor, codeIn}
 use Rattle.structure.proofs.Reading.{number-of-small}
-use Rattle.slots.specs.Slots.{codes}
-use Rattle.slots.proofs.Stores.{pick-all}
+use Rattle.laws.proofs.Choice.{pick-all}
 
 abbrev Small : ℕ → Type 0
 Small x = x < codes

@@ -13,13 +13,14 @@ use mathlib.Core.List.{List, [], _∷_}
 use native.Mathlib.Omega.{arith}
 use lib.ListN.{replicate}
 use borrow.Author.Tests.{ne-eqb}
+use Rattle.laws.proofs.Choice.{pick-all}
 use Rattle.laws.specs.Bounded.{get, put}
 use Rattle.pack.specs.Lists.{listLen, listItem}
 use Rattle.pack.specs.declared.counts.Counts.{Counts}
 use Rattle.structure.specs.Types.{codeIn}
 use Rattle.structure.proofs.Arrays.{zeros-get}
 use Rattle.slots.specs.Slots.{slots, closed, openWith, unbound, opened, Opening, openAll, openList, openPairs, shut, closeList, closeLets}
-use Rattle.slots.proofs.Stores.{pick-all, put-all}
+use Rattle.slots.proofs.Stores.{put-all}
 
 -- the codes of all slots; a slot that is not open counts as 0
 abbrev pub AllSlots : (ℕ → Type 0) → List ℕ → Type 0

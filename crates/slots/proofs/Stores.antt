@@ -1,4 +1,4 @@
--- What holds of all that an array holds, and of 0, after a store (put-all); what holds of both sides of a choice (pick-all).
+-- What holds of all that an array holds, and of 0, after a store (put-all).
 -- Assumes nothing.
 use Prim.Native.Nat.{ℕ, _<_}
 use mathlib.Core.Path.{_≡_, sym, ap, subst, _∙_}
@@ -11,11 +11,6 @@ use Rattle.laws.specs.Bounded.{get, put}
 use Rattle.laws.proofs.Bounded.{get-in, get-out, put-in, get-other, by-bound}
 use Rattle.laws.proofs.Choice.{by-eq}
 use Rattle.laws.proofs.Members.{by-le}
-
-pub pick-all : {A : Type 0} (Q : A → Type 0) (b : Bool) {x y : A} → Q x → Q y → Q (pick b x y)
-unfolding pick
-pick-all Q true p q = p
-pick-all Q false p q = q
 
 module _ (Q : ℕ → Type 0) (none : Q 0) (n : ℕ) (xs : List ℕ) (i v : ℕ) (new : Q v) where
   -- what is read where it was stored: what was stored, or nothing

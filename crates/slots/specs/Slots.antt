@@ -18,10 +18,6 @@ use Rattle.structure.specs.Types.{codeIn}
 abbrev pub slots : ℕ
 slots = 256
 
--- a type's code is a tag of 8 and a number of 16,384
-abbrev pub codes : ℕ
-codes = 131072
-
 abbrev pub closed : ℕ
 closed = 1
 

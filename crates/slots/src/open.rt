@@ -1,7 +1,8 @@
 // Opening slots: one, those of an arm at the types of its variant's fields, those of a root's parameters.
 ghost use mathlib.Core.Path.{_≡_};
 ghost use Prim.Native.Nat.{_<_};
-ghost use Rattle.slots.specs.Slots.{codes, unbound, opened, opening, openList, openPairs};
+ghost use Rattle.unionfind.specs.Codes.{codes};
+ghost use Rattle.slots.specs.Slots.{unbound, opened, opening, openList, openPairs};
 use crate::slots::Slots;
 use crate::slots::put_slot;
 use crate::slots::slot_at;

@@ -2,7 +2,7 @@
 -- Assumes nothing.
 use mathlib.Core.Path.{_≡_, refl, sym, ap, _∙_}
 use mathlib.Core.List.{List}
-use Prim.Native.Nat.{ℕ, _+_, _<_, _≤_}
+use Prim.Native.Nat.{ℕ, _+_, _*_, _<_, _≤_}
 use native.Mathlib.Omega.{arith}
 use lib.ListN.{length, getD, set, length-set, replicate, length-replicate, getD-replicate, List·getD-eq-default}
 use lib.Seq.{getD-set-same, getD-set-other}
@@ -11,8 +11,11 @@ use Rattle.laws.proofs.Bounded.{get-in, get-out, put-in, get-same}
 use Rattle.laws.proofs.Choice.{by-eq, by-test}
 use Rattle.structure.specs.Structure.{rows}
 use Rattle.structure.specs.Table.{Clear}
-use lib.Dec.{ltb}
-use borrow.Author.Tests.{ltb-true, ltb-false}
+use mathlib.Core.Bool.{true}
+use lib.Dec.{ltb, leb}
+use borrow.Author.Tests.{ltb-true, ltb-false, leb-true}
+use mir.Val.{Fits}
+use mir.Syntax.{w32, w64}
 
 -- n zeros
 pub zeros-at : (n k : ℕ) → getD (replicate {A = ℕ} n 0) k 0 ≡ 0
@@ -64,3 +67,15 @@ set-there n xs i x k d =
     by-test (ltb k n)
     (λ t. sym (get-in n (set xs i x) k (ltb-true k n t)) ∙ getD-set-other xs i k x 0 d ∙ get-in n xs k (ltb-true k n t))
     (λ f. sym (get-out n (set xs i x) k (ltb-false k n f)) ∙ get-out n xs k (ltb-false k n f))
+
+-- ---- place x of an array of k entries, 4 bytes each
+
+module _ {x k : ℕ} (h : x < k) (room : leb k 32769 ≡ true) where
+  pub fits : Fits w64 x
+  fits = let l = leb-true k 32769 room in omega arith
+
+  pub offset : Fits w64 (x * 4)
+  offset = let l = leb-true k 32769 room in omega arith
+
+  pub more : Fits w32 (x + 1)
+  more = let l = leb-true k 32769 room in omega arith

@@ -2,6 +2,7 @@
 --     Built         what is known when the rows below i are done
 --     built-none    at the start
 --     built-more    row i
+--     built-kept    the same from what was kept of it
 --     numbers       at the end
 -- That the rows are right is known of a table where each row refers only to smaller ones; the rest of any.
 -- Assumes nothing.
@@ -19,9 +20,10 @@ use Rattle.laws.specs.First.{all}
 use Rattle.laws.specs.Lists.{bit}
 use Rattle.laws.specs.Bounded.{get}
 use Rattle.laws.proofs.First.{all-true, all-each}
+use Rattle.laws.proofs.Tests.{same-test, all-same}
 use Rattle.laws.proofs.Bounded.{get-in}
 use Rattle.laws.proofs.Choice.{yes, no, by-test, by-eq, and-both, fails}
-use Rattle.pack.specs.Read.{Reads}
+use Rattle.laws.specs.Bounded.{Reads}
 use Rattle.pack.specs.Rows.{typeRow}
 use Rattle.pack.specs.Named.{partsOf}
 use Rattle.pack.specs.declared.counts.Counts.{Counts}
@@ -29,10 +31,10 @@ use Rattle.unionfind.proofs.Chains.{not-both}
 use Rattle.structure.specs.Structure.{rows, PartsSmaller, numberOf, equal, rowNumber, isVarKind, anyOf, holds}
 use Rattle.structure.specs.Lists.{slotOf, lenAt, partAt}
 use Rattle.structure.specs.Table.{Clear, entry, like, print, heldIn, firstOf, keyOf, markOf, hasKey, Hit, Numbers}
-use Rattle.structure.specs.Facts.{slots, hasList, NewList, OldList, ListTold}
+use Rattle.structure.specs.Facts.{slots, hasList, NewList, OldList, ListTold, ListKept, RowKept}
 use Rattle.structure.specs.declared.facts.ListFacts.{ListFacts}
 use Rattle.structure.proofs.Arrays.{zeros-at, Filled, filled-none, filled-more, filled-entry, Empty, empty-more}
-use Rattle.structure.proofs.Pairs.{both-true, same-test, bit-test, bit-zero}
+use Rattle.structure.proofs.Pairs.{both-true, bit-test, bit-zero}
 use Rattle.structure.proofs.Flat.{part-in, return-in, AnyPart, any-part}
 use Rattle.structure.proofs.Reps.{rep, Equivalence, rep-same, rep-none}
 use Rattle.structure.proofs.Equal.{equivalence, equal-number, holds-step}
@@ -41,12 +43,6 @@ use Rattle.structure.proofs.Keys.{slotAt, Like, is-like, like-is, rowLi
 -- three tests, of which the last two are others
 three : (a : Bool) {b d x y : Bool} → b ≡ x → d ≡ y → (a || d || b) ≡ (a || (y || x))
 three a {b = b} {d = d} {x = x} {y = y} e q = rw (e, q) (or-assoc a y x)
-
-all-same : (f g : ℕ → Bool) (n : ℕ) → ((k : ℕ) → k < n → f k ≡ g k) → all f 0 n ≡ all g 0 n
-all-same f g n q =
-    same-test (all f 0 n) (all g 0 n)
-    (λ t. all-true g n (λ k h. sym (q k h) ∙ all-each f n t k h))
-    (λ t. all-true f n (λ k h. q k h ∙ all-each g n t k h))
 
 -- what each array is to have for row k
 module _ (p : List ℕ) (c : Counts) where
@@ -313,6 +309,13 @@ module _ (p : List ℕ) (c : Counts) where
       rest = empty-more x (b .rest);
       restMarks = empty-more m (b .restMarks);
     }
+
+  module _ {i : ℕ} {us ls ps hs ks ss ms us′ ls′ ps′ hs′ lh ln ss′ ms′ ks′ kh kn : List ℕ} {l : ListFacts} where
+    pub built-kept : Built i us ls ps hs ks ss ms → i < c .types → i < rows
+        → ListKept p c ss ms us ls ps hs i l us′ ls′ ps′ hs′ lh ln → RowKept p ss ms ks i l ss′ ms′ ks′ kh kn → Built (i + 1) us′ ls′ ps′ hs′ ks′ ss′ ms′
+    built-kept b inside room k r =
+        rw (k .usersSet, k .listsSet, k .printsSet, k .heldsSet, r .keysSet, r .sameSet, r .marksSet)
+        (built-more b inside room (k .read) (k .told) (r .keyed) (r .hit) (r .numbered) (r .marked))
 
   pub built-none : {ls ps hs ks ss ms : List ℕ} → Clear ls → Clear ps → Clear hs → Clear ks → Clear ss → Clear ms → Built 0 (replicate slots 0) ls ps hs ks ss ms
   built-none l q h k s m = record {

@@ -14,13 +14,14 @@ use native.Mathlib.Omega.{arith}
 use lib.Dec.{eqb}
 use borrow.Author.Tests.{eqb-true, eq-eqb}
 use Rattle.laws.specs.Lists.{In}
+use Rattle.laws.proofs.Tests.{same-test}
 use Rattle.laws.proofs.Choice.{by-test, and-both}
 use Rattle.pack.specs.Rows.{typeRow}
 use Rattle.pack.specs.Named.{partsOf}
 use Rattle.pack.specs.declared.counts.Counts.{Counts}
 use Rattle.structure.specs.Structure.{PartsSmaller, numberOf, namesOf, pairwise, alike, equalIn, equal, rowNumber, isVarKind, anyOf, holdsIn, holds}
 use Rattle.structure.specs.Lists.{slotOf, lenAt, partAt}
-use Rattle.structure.proofs.Pairs.{same-test, any-map, pairwise-any}
+use Rattle.structure.proofs.Pairs.{any-map, pairwise-any}
 use Rattle.structure.proofs.Flat.{Flat, flat-of, of-flat, part-in, return-in, AnyPart, any-part}
 use Rattle.structure.proofs.Reps.{rep, Equivalence, rep-le, rep-same, rep-equal}
 

@@ -13,6 +13,7 @@ use lib.Dec.{eqb}
 use borrow.Author.Tests.{eqb-true, eq-eqb, ne-eqb}
 use Rattle.laws.specs.Choice.{pick}
 use Rattle.laws.specs.First.{all}
+use Rattle.laws.proofs.Tests.{same-test}
 use Rattle.laws.proofs.First.{all-true, all-each}
 use Rattle.laws.proofs.Choice.{yes, no, by-test, by-eq, and-both}
 use Rattle.pack.specs.Rows.{typeRow}
@@ -21,7 +22,7 @@ use Rattle.pack.specs.declared.rows.TypeRow.{TypeRow}
 use Rattle.structure.specs.Structure.{rows, PartsSmaller, numbered, numberOf, equal, rowNumber}
 use Rattle.structure.specs.Lists.{slotOf, lenAt, nameAt, partAt}
 use Rattle.structure.specs.Table.{likeAt, like, mixed, printIn, print, heldIn, firstOf, keyOf}
-use Rattle.structure.proofs.Pairs.{both-true, same-test}
+use Rattle.structure.proofs.Pairs.{both-true}
 use Rattle.structure.proofs.Flat.{Flat, part-in, return-in}
 use Rattle.structure.proofs.Reading.{number-small, number-of-small}
 use Rattle.structure.proofs.Reps.{rep, Equivalence, rep-le, rep-same, rep-equal}

@@ -2,6 +2,7 @@ pub mod Arrays
 pub mod Pairs
 pub mod Flat
 pub mod Reading
+pub mod Joins
 pub mod Chaining
 pub mod Reps
 pub mod Equal

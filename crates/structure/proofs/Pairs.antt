@@ -15,12 +15,6 @@ use Rattle.structure.specs.Structure.{pairwise, anyOf}
 pub both-true : {a b : Bool} → a ≡ true → b ≡ true → (a && b) ≡ true
 both-true p q = rw (p, q)
 
--- tests that hold together are the same test
-pub same-test : (a b : Bool) → (a ≡ true → b ≡ true) → (b ≡ true → a ≡ true) → a ≡ b
-same-test true b f g = sym (f refl)
-same-test false true f g = absurd (fails (sym (g refl)))
-same-test false false f g = refl
-
 -- a flag as a test again
 pub bit-test : (b : Bool) → not (eqb (bit b) 0) ≡ b
 bit-test true = refl

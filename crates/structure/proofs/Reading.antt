@@ -11,7 +11,7 @@ use borrow.Author.Tests.{eq-eqb, ne-eqb}
 use Rattle.laws.specs.Choice.{pick}
 use Rattle.laws.specs.First.{all}
 use Rattle.laws.proofs.Choice.{yes, no, by-test}
-use Rattle.pack.specs.Read.{Reads}
+use Rattle.laws.specs.Bounded.{Reads}
 use Rattle.pack.specs.Rows.{typeRow}
 use Rattle.pack.specs.declared.counts.Counts.{Counts}
 use Rattle.pack.specs.declared.rows.TypeRow.{TypeRow}

@@ -4,7 +4,7 @@ ghost use mathlib.Core.Bool.{_&&_};
 ghost use Prim.Native.Nat.{_<_};
 ghost use lib.Dec.{eqb};
 ghost use Rattle.laws.specs.First.{all};
-ghost use Rattle.pack.specs.Read.{Reads};
+ghost use Rattle.laws.specs.Bounded.{Reads};
 ghost use Rattle.pack.specs.Rows.{typeRow};
 ghost use Rattle.structure.specs.Lists.{slotOf};
 ghost use Rattle.structure.specs.Table.{entry, likeAt, like, mixed, print, heldIn, Hit};

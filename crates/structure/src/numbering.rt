@@ -1,11 +1,13 @@
 // The table of structures: each row's number, the smallest row equal in structure, and whether it holds a variable.
 // Rows are taken from the smallest up, so all that a row refers to is numbered when it is reached, and no row is looked into twice.
 ghost use mathlib.Core.Path.{_≡_};
-ghost use Prim.Native.Nat.{_≤_};
+ghost use Prim.Native.Nat.{_<_, _≤_};
 ghost use Rattle.structure.specs.Structure.{rows};
 ghost use Rattle.structure.specs.Table.{Bounded, Numbers};
-use crate::buckets::bucket_of;
-use crate::buckets::head_of;
+ghost use Rattle.structure.specs.Buckets.{Chained};
+ghost use Rattle.structure.specs.Facts.{ListKept, RowKept};
+use crate::buckets::chain;
+use crate::facts::ListFacts;
 use crate::facts::list_facts;
 use crate::rows::entry_or;
 use crate::rows::key_at;
@@ -27,6 +29,68 @@ fn rows_of(c: Counts) -> u32
     }
 }
 
+// What is known of row i's list, kept for the rows after it.
+fn keep_list(
+    pack: &[u8],
+    c: Counts,
+    same: &[u32; TypeTable::CAPACITY],
+    marks: &[u32; TypeTable::CAPACITY],
+    users: &mut [u32; TypeTable::SLOTS],
+    lists: &mut [u32; TypeTable::CAPACITY],
+    prints: &mut [u32; TypeTable::CAPACITY],
+    helds: &mut [u32; TypeTable::CAPACITY],
+    heads: &mut [u32; TypeTable::BUCKETS],
+    nexts: &mut [u32; TypeTable::CAPACITY],
+    i: u32,
+) -> ListFacts
+    requires { ⌜ (i < rows) × Chained (now prints) (now heads) (now nexts) i ⌝ }
+    ensures { λ l. ⌜ ListKept (now (pack .entry)) c (now (same .entry)) (now (marks .entry)) (now (users .entry)) (now (lists .entry)) (now (prints .entry)) (now (helds .entry)) i l (now (users .exit)) (now (lists .exit)) (now (prints .exit)) (now (helds .exit)) (now (heads .exit)) (now (nexts .exit)) ⌝ }
+{
+    let s = slot_at(pack, i);
+    let l = list_facts(
+        pack,
+        c,
+        same,
+        marks,
+        users,
+        lists,
+        prints,
+        helds,
+        heads,
+        nexts,
+        i,
+        s,
+    );
+    chain(prints, heads, nexts, i, l.print);
+    users[s as usize] = i + 1;
+    lists[i as usize] = l.number;
+    helds[i as usize] = l.held;
+    l
+}
+
+// Row i's number and mark, where l is known of its list.
+fn keep_row(
+    pack: &[u8],
+    same: &mut [u32; TypeTable::CAPACITY],
+    marks: &mut [u32; TypeTable::CAPACITY],
+    keys: &mut [u32; TypeTable::CAPACITY],
+    heads: &mut [u32; TypeTable::BUCKETS],
+    nexts: &mut [u32; TypeTable::CAPACITY],
+    i: u32,
+    l: ListFacts,
+)
+    requires { ⌜ (i < rows) × Chained (now keys) (now heads) (now nexts) i ⌝ }
+    ensures { λ _. ⌜ RowKept (now (pack .entry)) (now (same .entry)) (now (marks .entry)) (now (keys .entry)) i l (now (same .exit)) (now (marks .exit)) (now (keys .exit)) (now (heads .exit)) (now (nexts .exit)) ⌝ }
+{
+    let key = key_at(pack, same, i, l.number);
+    let row = row_with_key(keys, heads, nexts, i, key);
+    let number = entry_or(same, row, i);
+    let mark = mark_at(pack, marks, i, l.held);
+    chain(keys, heads, nexts, i, key);
+    same[i as usize] = number;
+    marks[i as usize] = mark;
+}
+
 pub fn number_rows(pack: &[u8], c: Counts) -> TypeTable
     ensures { λ r. ⌜ Numbers (now (pack .entry)) c (r .same) (r .marks) ⌝ }
 {
@@ -45,40 +109,29 @@ pub fn number_rows(pack: &[u8], c: Counts) -> TypeTable
     let n = rows_of(c);
     let mut i: u32 = 0;
     while i < n {
-        let s = slot_at(pack, i);
-        let l = list_facts(
+        let l = keep_list(
             pack,
             c,
             &same,
             &marks,
-            &users,
-            &lists,
-            &prints,
-            &helds,
-            &list_heads,
-            &list_nexts,
+            &mut users,
+            &mut lists,
+            &mut prints,
+            &mut helds,
+            &mut list_heads,
+            &mut list_nexts,
             i,
-            s,
         );
-        let key = key_at(pack, &same, i, l.number);
-        let row = row_with_key(&keys, &key_heads, &key_nexts, i, key);
-        let number = entry_or(&same, row, i);
-        let mark = mark_at(pack, &marks, i, l.held);
-        let list_next = head_of(&list_heads, l.print);
-        let list_bucket = bucket_of(l.print);
-        let key_next = head_of(&key_heads, key);
-        let key_bucket = bucket_of(key);
-        users[s as usize] = i + 1;
-        lists[i as usize] = l.number;
-        prints[i as usize] = l.print;
-        helds[i as usize] = l.held;
-        keys[i as usize] = key;
-        same[i as usize] = number;
-        marks[i as usize] = mark;
-        list_nexts[i as usize] = list_next;
-        list_heads[list_bucket as usize] = i + 1;
-        key_nexts[i as usize] = key_next;
-        key_heads[key_bucket as usize] = i + 1;
+        keep_row(
+            pack,
+            &mut same,
+            &mut marks,
+            &mut keys,
+            &mut key_heads,
+            &mut key_nexts,
+            i,
+            l,
+        );
         i += 1;
     }
     TypeTable {

@@ -3,7 +3,7 @@ ghost use mathlib.Core.Path.{_≡_};
 ghost use Prim.Native.Nat.{_<_};
 ghost use lib.Dec.{ltb};
 ghost use Rattle.laws.specs.Choice.{pick};
-ghost use Rattle.pack.specs.Read.{Reads};
+ghost use Rattle.laws.specs.Bounded.{Reads};
 ghost use Rattle.pack.specs.Rows.{typeRow};
 ghost use Rattle.structure.specs.Structure.{numbered, numberOf, isVarKind};
 ghost use Rattle.structure.specs.Table.{entry, firstOf, keyOf, markOf, hasKey, Hit};

@@ -1,7 +1,7 @@
 // The list of a type row, named by its slot: twice its start, and one more where it is a list of pairs.
 ghost use mathlib.Core.Path.{_≡_};
 ghost use Prim.Native.Nat.{_<_};
-ghost use Rattle.pack.specs.Read.{Reads};
+ghost use Rattle.laws.specs.Bounded.{Reads};
 ghost use Rattle.pack.specs.Rows.{typeRow};
 ghost use Rattle.structure.specs.Structure.{paired};
 ghost use Rattle.structure.specs.Lists.{listed, slotOf, ofPairs, lenAt, nameAt, partAt};

@@ -1,7 +1,7 @@
 // The code of a type row.
 ghost use mathlib.Core.Path.{_≡_};
 ghost use Prim.Native.Nat.{_<_};
-ghost use Rattle.pack.specs.Read.{Reads};
+ghost use Rattle.laws.specs.Bounded.{Reads};
 ghost use Rattle.pack.specs.Rows.{typeRow};
 ghost use Rattle.unionfind.specs.Codes.{numbers};
 ghost use Rattle.structure.specs.Structure.{numberOf};

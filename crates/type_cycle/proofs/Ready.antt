@@ -14,10 +14,10 @@ use Rattle.pack.specs.Counts.{inLimits}
 use Rattle.pack.specs.Rows.{typeRow}
 use Rattle.pack.specs.declared.counts.Counts.{Counts}
 use Rattle.pack.specs.declared.rows.TypeRow.{TypeRow}
-use Rattle.rows.specs.Lists.{itemsFit}
+use Rattle.lists.specs.Lists.{itemsFit}
 use Rattle.rows.specs.Types.{typeInRange, namedFits, typeRule}
 use Rattle.rows.specs.Tables.{rowRule, rowsOf}
-use Rattle.rows.proofs.TableLaws.{limited}
+use Rattle.pack.proofs.CountLaws.{limited}
 use Rattle.rows.proofs.Promises.{rule-passed, parts-smaller, fields-inside}
 use Rattle.type_cycle.specs.Order.{Good}
 use Rattle.type_cycle.proofs.LeadLaws.{parts-seconds}

@@ -18,8 +18,8 @@ use Rattle.pack.specs.Rows.{typeRow, definitionRow}
 use Rattle.pack.specs.declared.answer.Reading.{Reading}
 use Rattle.pack.specs.declared.answer.Reading.the-variants.{Pack, Refused}
 use Rattle.rows.specs.Definitions.{definitionKind, definitionKnown, definitionInRange, definitionDistinct, definitionRule}
-use Rattle.rows.specs.Lists.{listFits, idsFit, itemsFit}
-use Rattle.rows.specs.Names.{namesDiffer}
+use Rattle.lists.specs.Lists.{listFits, idsFit, itemsFit}
+use Rattle.lists.specs.Names.{namesDiffer}
 use Rattle.rows.specs.Tables.{rowRule, tableOf, rowsOf}
 use Rattle.rows.specs.Types.{primitive, typeKnown, namedFits, typeInRange, typeDistinct, typeRule}
 use Rattle.type_cycle.specs.Leads.{over, noneOf, inside, typesIn, namesIn}

@@ -5,7 +5,7 @@ ghost use Rattle.unionfind.specs.Cells.{Live, Knows};
 ghost use Rattle.unify.specs.Unify.{mismatch, Resolves, Unifies};
 use crate::plan::Plan;
 use crate::plan::plan_for;
-use pack::Refusal;
+use laws::Refusal;
 use structure::TypeTable;
 use unionfind::Answer;
 use unionfind::UnionFind;

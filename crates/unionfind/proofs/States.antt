@@ -18,7 +18,7 @@ use lib.Dec.{leb, ltb, eqb}
 use borrow.Author.Tests.{leb-false, lt-ltb, le-ltb, lt-leb, eq-eqb, ne-eqb}
 use Rattle.laws.specs.Choice.{pick}
 use Rattle.laws.proofs.Choice.{yes, no, by-test, by-eq}
-use Rattle.pack.specs.declared.answer.Refusal.{Refusal}
+use Rattle.laws.specs.declared.refusal.Refusal.{Refusal}
 use Rattle.unionfind.specs.Codes.{numbers, number, isVar, anyTag, tagFor, ownCode}
 use Rattle.unionfind.specs.Cells.{capacity, isLink, trail, found, setAll, compressed, among, Chain, stop, step, LoopFree, Knows, Live}
 use Rattle.unionfind.specs.Answers.{refusal, full, unknown, closes, selves, Empties, setAnswer, ifDone, setCells, Sets, freshAnswer, Makes}

@@ -6,7 +6,7 @@ use Prim.Native.Nat.{ℕ, zero, suc, _+_}
 use lib.ListN.{set}
 use lib.Dec.{leb, ltb}
 use Rattle.laws.specs.Choice.{pick}
-use Rattle.pack.specs.declared.answer.Refusal.{Refusal}
+use Rattle.laws.specs.declared.refusal.Refusal.{Refusal}
 use Rattle.unionfind.specs.Codes.{number, isVar, anyTag, tagFor, ownCode}
 use Rattle.unionfind.specs.Cells.{capacity, isLink, trail, among, found, compressed, LoopFree, Kept, Knows, Live}
 use Rattle.unionfind.specs.declared.codes.Kind.{Kind}

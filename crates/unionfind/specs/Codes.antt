@@ -11,6 +11,10 @@ use Rattle.unionfind.specs.declared.codes.Kind.the-variants.{Var, IntVar
 abbrev pub numbers : ℕ
 numbers = 16384
 
+-- a code is one of 8 tags and a number
+abbrev pub codes : ℕ
+codes = 131072
+
 abbrev pub code : ℕ → ℕ → ℕ
 code t k = t * numbers + k
 

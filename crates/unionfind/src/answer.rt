@@ -1,7 +1,7 @@
 // The answers of union-find: a code made, or done, or a refusal.
 ghost use mathlib.Core.Path.{_≡_};
 ghost use Rattle.unionfind.specs.Answers.{full, unknown, closes};
-use pack::Refusal;
+use laws::Refusal;
 
 pub enum Answer {
     Done,

@@ -1,7 +1,7 @@
 // A type as a number: its tag and, below it, a number.
 ghost use mathlib.Core.Path.{_≡_};
 ghost use Prim.Native.Nat.{_<_};
-ghost use Rattle.pack.specs.Read.{Reads};
+ghost use Rattle.laws.specs.Bounded.{Reads};
 ghost use Rattle.unionfind.specs.Cells.{capacity};
 ghost use Rattle.unionfind.specs.Codes.{numbers, code, tag, number, isVar, tagFor, ownCode};
 use laws::either;

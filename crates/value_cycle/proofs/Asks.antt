@@ -1,34 +1,20 @@
--- The steps of a loop that looks for a number w: among the items of a list, and on the stack.
---     AskItems, AskStack   its invariant: what is left says what the whole says
---     found                the number is met
---     passes               another is passed
---     ends                 nothing is left
+-- The steps of a loop that looks for a number w among the items of a list.
+--     AskItems     its invariant: what is left says what the whole says
+--     found        the number is met
+--     passes       another is passed
+--     over         nothing is left
 -- Assumes nothing.
 use Prim.Native.Nat.{ℕ, _+_, _≤_, _<_}
 use mathlib.Core.Path.{_≡_, sym, ap, _∙_}
 use mathlib.Core.Bool.{true, false}
 use mathlib.Core.List.{List, _∷_}
-use native.Mathlib.Numerals.{add-one}
 use native.Mathlib.Omega.{arith}
-use lib.Dec.{leb}
-use lib.ListN.{length, drop, getD, drop-of-length-le}
-use lib.Seq.{drop-cons}
-use Rattle.laws.proofs.Lists.{count-other}
-use Rattle.laws.proofs.Members.{in-self, in-subst}
 use Rattle.pack.specs.Lists.{listLen, listItem}
 use Rattle.pack.specs.Named.{itemsOf}
 use Rattle.pack.specs.declared.counts.Counts.{Counts}
 use Rattle.components.specs.Answers.{has}
-use Rattle.components.proofs.Tests.{in-has}
-use Rattle.value_cycle.specs.Values.{capacity}
-use Rattle.value_cycle.proofs.Items.{itemsFrom, items-start, items-at, items-end}
-
--- the first of a list is w, or it is not
-has-first : (w x : ℕ) (rest : List ℕ) → x ≡ w → has w (x ∷ rest) ≡ true
-has-first w x rest q = in-has w (x ∷ rest) (in-subst (x ∷ rest) q (in-self x rest))
-
-has-rest : (w x : ℕ) (rest : List ℕ) → (x ≡ w → ⊥) → has w rest ≡ has w (x ∷ rest)
-has-rest w x rest q = ap (leb 1) (sym (count-other w x rest (λ k. q (sym k))))
+use Rattle.tarjan.proofs.Asks.{has-first, has-rest}
+use Rattle.tarjan.proofs.Items.{itemsFrom, items-start, items-at, items-end}
 
 pub record AskItems (p : List ℕ) (c : Counts) (s w n k : ℕ) : Type 0 where
   pub long : n ≡ listLen p c s
@@ -49,20 +35,3 @@ module _ {p : List ℕ} {c : Counts} {s w n k : ℕ} (inv : AskItems p c s w n k
 
   pub items-over : n ≤ k → false ≡ has w (itemsOf p c s)
   items-over l = ap (has w) (sym (items-end p c s k (omega (arith, inv .long)))) ∙ inv .says
-
-pub record AskStack (stack : List ℕ) (top w i : ℕ) : Type 0 where
-  pub long : length stack ≡ capacity
-  pub says : has w (drop i stack) ≡ has w (drop top stack)
-
-module _ {stack : List ℕ} {top w i : ℕ} (inv : AskStack stack top w i) where
-  member : i < capacity → drop i stack ≡ getD stack i 0 ∷ drop (i + 1) stack
-  member l = rw add-one (drop-cons stack i 0 (omega (arith, inv .long)))
-
-  pub member-found : i < capacity → getD stack i 0 ≡ w → true ≡ has w (drop top stack)
-  member-found l q = sym (has-first w (getD stack i 0) (drop (i + 1) stack) q) ∙ ap (has w) (sym (member l)) ∙ inv .says
-
-  pub member-passes : i < capacity → (getD stack i 0 ≡ w → ⊥) → AskStack stack top w (i + 1)
-  member-passes l q = record { long = inv .long; says = has-rest w (getD stack i 0) (drop (i + 1) stack) q ∙ ap (has w) (sym (member l)) ∙ inv .says }
-
-  pub stack-over : capacity ≤ i → false ≡ has w (drop top stack)
-  stack-over l = ap (has w) (sym (drop-of-length-le stack {i = i} (omega (arith, inv .long)))) ∙ inv .says

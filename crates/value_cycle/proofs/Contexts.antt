@@ -25,10 +25,10 @@ use Rattle.components.specs.Walks.{Walk, one, more, Reach}
 use Rattle.components.proofs.Reached.{reached-walk, walk-reached}
 use Rattle.components.proofs.Tests.{some-any, any-some}
 use Rattle.components.proofs.Walks.{edge-reach, reach-walk}
+use Rattle.tarjan.specs.Values.{capacity, kindOf, listOf, InRange}
+use Rattle.tarjan.proofs.Items.{item-in}
 use Rattle.value_cycle.specs.Context.{Sized, Visited, Passed, Clear, Grew, SeeksIn, Seeks, Asks}
-use Rattle.value_cycle.specs.Values.{capacity, kindOf, listOf, InRange}
 use Rattle.value_cycle.proofs.Constants.{constant-and}
-use Rattle.value_cycle.proofs.Items.{item-in}
 
 module _ {p : List ℕ} {c : Counts} where
   -- v was visited before

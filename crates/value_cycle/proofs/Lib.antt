@@ -1,12 +1,7 @@
-pub mod Items
 pub mod Asks
 pub mod Constants
-pub mod Pops
-pub mod Arrays
-pub mod Leaves
-pub mod Follows
+pub mod Looped
 pub mod Areas
-pub mod Sorts
 pub mod Contexts
 pub mod Outcomes
 pub mod Worked

@@ -9,13 +9,13 @@ use Rattle.pack.specs.Named.{refsOf}
 use Rattle.pack.specs.declared.counts.Counts.{Counts}
 use Rattle.components.specs.Answers.{Answer, order}
 use Rattle.components.proofs.Cases.{is₅₀, is₅₁, is₅₂, is-listed}
-use Rattle.value_cycle.specs.Area.{written, Writes}
+use Rattle.tarjan.specs.Search.{Sorted}
+use Rattle.tarjan.specs.Values.{kindOf}
+use Rattle.tarjan.proofs.Sorts.{as-ordered, is-value}
+use Rattle.value_cycle.specs.Area.{written, Writes, Orders}
 use Rattle.value_cycle.specs.Order.{outcome, refusal, answered, orderOf, selfAt, loopAt, contextAt}
-use Rattle.value_cycle.specs.Search.{Sorted}
-use Rattle.value_cycle.specs.Values.{kindOf, Orders}
 use Rattle.value_cycle.specs.declared.answer.Order.{Order}
 use Rattle.value_cycle.specs.declared.answer.Order.the-variants.{Listed}
-use Rattle.value_cycle.proofs.Sorts.{as-ordered, is-value}
 
 -- a place at which a search ended, named as the code has it
 at-place : (p : List ℕ) (c : Counts) (area : List ℕ) (number : ℕ) {r : Order} {v w : ℕ} → v ≡ w → r ≡ refusal number v → outcome r area ≡ outcome (refusal number w) area

@@ -8,16 +8,16 @@ use mathlib.Core.List.{List}
 use native.Mathlib.Omega.{arith}
 use lib.ListN.{length, getD}
 use Rattle.pack.specs.Named.{refsOf}
-use Rattle.pack.specs.declared.answer.Refusal.{Refusal}
+use Rattle.laws.specs.declared.refusal.Refusal.{Refusal}
 use Rattle.pack.specs.declared.counts.Counts.{Counts}
 use Rattle.components.specs.Account.{Lists, Orderable, Refuses, Says}
 use Rattle.components.specs.Answers.{Answer, listed, refused}
 use Rattle.components.proofs.Answers.{says, refuses-not}
 use Rattle.components.proofs.Rooms.{full}
 use Rattle.components.proofs.Unique.{one-listing, one-refusal}
-use Rattle.value_cycle.specs.Area.{written, readBack}
+use Rattle.tarjan.specs.Values.{kindOf}
+use Rattle.value_cycle.specs.Area.{written, readBack, Orders}
 use Rattle.value_cycle.specs.Order.{Outcome, refusal, answered, answerOf, orderOf}
-use Rattle.value_cycle.specs.Values.{kindOf, Orders}
 use Rattle.value_cycle.specs.declared.answer.Order.{Order}
 use Rattle.value_cycle.specs.declared.answer.Order.the-variants.{Listed, Refused}
 use Rattle.value_cycle.proofs.ReadBack.{read-written, written-rest, written-length}

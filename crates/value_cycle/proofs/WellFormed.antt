@@ -8,11 +8,12 @@ use lib.ListN.{length}
 use Rattle.pack.specs.declared.answer.Reading.the-variants.{Pack}
 use Rattle.pack.specs.declared.counts.Counts.{Counts}
 use Rattle.rows.proofs.Promises.{refs-inside}
-use Rattle.rows.proofs.TableLaws.{limited}
+use Rattle.pack.proofs.CountLaws.{limited}
 use Rattle.formed.specs.Formed.{formedOf}
 use Rattle.formed.proofs.Promises.{WellFormed, well-formed}
+use Rattle.tarjan.specs.Values.{InRange}
+use Rattle.value_cycle.specs.Area.{Orders}
 use Rattle.value_cycle.specs.Order.{orderOf}
-use Rattle.value_cycle.specs.Values.{InRange, Orders}
 use Rattle.value_cycle.proofs.Promises.{Promised, promised}
 
 in-range : {p : List ℕ} {c : Counts} → WellFormed p c → InRange p c

@@ -5,7 +5,8 @@ use mathlib.Core.List.{List, [], _∷_, _++_}
 use lib.ListN.{length, drop, getD}
 use Rattle.laws.specs.Lists.{gather}
 use Rattle.pack.specs.Read.{wordAt}
-use Rattle.value_cycle.specs.Values.{capacity}
+use Rattle.pack.specs.declared.counts.Counts.{Counts}
+use Rattle.tarjan.specs.Values.{capacity, InRange}
 
 unfoldable pub bytesOf : List ℕ → List ℕ
 bytesOf [] = []
@@ -26,3 +27,8 @@ pub record Writes (listed : List ℕ) (n : ℕ) (area : List ℕ) : Type 0 where
   pub few : n ≤ capacity
   pub long : 2 * n ≤ length area
   pub under : (k : ℕ) → k < n → getD listed k 0 < capacity
+
+-- what a well-formed pack promises of its values, and an area for their order: "at least 2v"
+pub record Orders (p : List ℕ) (c : Counts) (area : List ℕ) : Type 0 where
+  pub in-range : InRange p c
+  pub long : 2 * c .values ≤ length area

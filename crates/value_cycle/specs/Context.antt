@@ -10,7 +10,7 @@ use Rattle.pack.specs.Named.{refsOf}
 use Rattle.pack.specs.declared.counts.Counts.{Counts}
 use Rattle.components.specs.Answers.{usesContext}
 use Rattle.components.specs.Walks.{Edge, Reach}
-use Rattle.value_cycle.specs.Values.{capacity, kindOf}
+use Rattle.tarjan.specs.Values.{capacity, kindOf}
 
 abbrev pub Sized : List ℕ → Type 0
 Sized l = length l ≡ capacity

@@ -7,8 +7,8 @@ use lib.ListN.{getD}
 use Rattle.pack.specs.Named.{refsOf}
 use Rattle.pack.specs.declared.counts.Counts.{Counts}
 use Rattle.components.specs.Answers.{Answer, listed, refused, constant, listsItself, first₅₀, first₅₁, first₅₂, answer}
+use Rattle.tarjan.specs.Values.{kindOf}
 use Rattle.value_cycle.specs.Area.{written}
-use Rattle.value_cycle.specs.Values.{kindOf}
 use Rattle.value_cycle.specs.declared.answer.Order.{Order}
 use Rattle.value_cycle.specs.declared.answer.Order.the-variants.{Listed, Refused}
 

@@ -1,7 +1,7 @@
 // The answers of ordering: the values are listed in the area, or a refusal.
 ghost use mathlib.Core.Path.{_≡_};
 ghost use Rattle.value_cycle.specs.Order.{refusal};
-use pack::Refusal;
+use laws::Refusal;
 
 pub enum Order {
     Listed,

@@ -2,7 +2,7 @@
 ghost use mathlib.Core.Path.{_≡_};
 ghost use lib.ListN.{take};
 ghost use Rattle.value_cycle.specs.Area.{written, Writes};
-use crate::values::Values;
+use tarjan::Values;
 
 pub fn write_order(listed: &[u32; Values::CAPACITY], n: u32, area: &mut [u8])
     requires { ⌜ Writes (now listed) n (now area) ⌝ }

@@ -4,17 +4,17 @@ ghost use mathlib.Core.Bool.{true, false};
 ghost use Prim.Native.Nat.{ℕ, _<_};
 ghost use Rattle.laws.specs.Lists.{In};
 ghost use Rattle.pack.specs.Named.{itemsOf};
-ghost use Rattle.value_cycle.specs.Values.{InRange};
+ghost use Rattle.tarjan.specs.Values.{InRange};
 ghost use Rattle.value_cycle.specs.Order.{contextAt};
 ghost use Rattle.value_cycle.specs.Context.{Sized, Seeks, SeeksIn, Asks};
 use crate::values::CONSTANT;
 use crate::values::CONTEXT;
-use crate::values::Values;
 use crate::values::kind_of;
-use crate::values::list_of;
 use pack::Counts;
 use pack::list_item;
 use pack::list_len;
+use tarjan::Values;
+use tarjan::list_of;
 
 // Whether v is a context value or reaches one.
 // A value that was visited is asked no further. While its own references are still being asked, that alone settles nothing. But the

@@ -3,9 +3,6 @@ mod answer;
 mod area;
 mod context;
 mod recursive;
-mod search;
-mod stack;
-mod tarjan;
 mod values;
 mod whole;
 

@@ -1,16 +1,16 @@
 // Constants that lie on a cycle: 50 and 51.
 ghost use mathlib.Core.Path.{_≡_};
 ghost use Prim.Native.Nat.{_<_};
-ghost use Rattle.value_cycle.specs.Values.{InRange, capacity};
+ghost use Rattle.tarjan.specs.Search.{Sorted};
+ghost use Rattle.tarjan.specs.Values.{InRange, capacity};
 ghost use Rattle.value_cycle.specs.Order.{listsItselfIn, isLoopedIn, selfAt, loopAt};
-ghost use Rattle.value_cycle.specs.Search.{Sorted};
 use crate::values::CONSTANT;
-use crate::values::Values;
 use crate::values::contains;
 use crate::values::kind_of;
-use crate::values::list_of;
 use laws::both;
 use pack::Counts;
+use tarjan::Values;
+use tarjan::list_of;
 
 // Whether v is a constant that lists itself.
 fn lists_itself(pack: &[u8], c: Counts, v: u32) -> bool

@@ -1,35 +1,19 @@
-// The values of a pack: their kinds, their references, and a number for each of them.
+// The values of a pack: their kinds, what their lists contain, and what an array has for one of them.
 ghost use mathlib.Core.Path.{_≡_};
 ghost use Prim.Native.Nat.{_<_};
-ghost use lib.ListN.{replicate, getD};
+ghost use lib.ListN.{getD};
 ghost use Rattle.pack.specs.Named.{itemsOf};
 ghost use Rattle.components.specs.Answers.{has};
-ghost use Rattle.value_cycle.specs.Values.{kindOf, listOf, capacity};
+ghost use Rattle.tarjan.specs.Values.{kindOf, capacity};
 use pack::Counts;
 use pack::list_item;
 use pack::list_len;
 use pack::value_row;
+use tarjan::Values;
 
 pub const CONSTANT: u32 = 0;
 
 pub const CONTEXT: u32 = 2;
-
-// A number for each value. It is lent as `&mut v.of`.
-pub struct Values {
-    pub of: [u32; Values::CAPACITY],
-}
-
-impl Values {
-    pub const CAPACITY: usize = 1024;
-
-    pub fn empty() -> Self
-        ensures { λ r. ⌜ r .of ≡ replicate capacity 0 ⌝ }
-    {
-        Self {
-            of: [0u32; Self::CAPACITY],
-        }
-    }
-}
 
 pub fn value_at(values: &[u32; Values::CAPACITY], d: u32) -> u32
     requires { ⌜ d < capacity ⌝ }
@@ -43,14 +27,6 @@ pub fn kind_of(pack: &[u8], c: Counts, v: u32) -> u32
 {
     let row = value_row(pack, c, v);
     row.kind
-}
-
-// Where the list of the values that v references starts.
-pub fn list_of(pack: &[u8], c: Counts, v: u32) -> u32
-    ensures { λ r. ⌜ r ≡ listOf (now (pack .entry)) c v ⌝ }
-{
-    let row = value_row(pack, c, v);
-    row.list
 }
 
 // Whether w is in the list at word s.

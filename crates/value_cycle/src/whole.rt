@@ -1,18 +1,18 @@
 // The whole of it, in the order of the Rust: 50, the search, 51, 52, the listing.
 ghost use mathlib.Core.Path.{_≡_};
 ghost use Prim.Native.Nat.{_<_};
+ghost use Rattle.value_cycle.specs.Area.{Orders};
 ghost use Rattle.value_cycle.specs.Order.{outcome, orderOf};
-ghost use Rattle.value_cycle.specs.Values.{Orders};
 use crate::answer::Order;
 use crate::answer::refused;
 use crate::area::write_order;
 use crate::context::context_check;
 use crate::recursive::first_looped;
 use crate::recursive::first_self;
-use crate::tarjan::tarjan;
-use crate::values::Values;
 use crate::values::value_at;
 use pack::Counts;
+use tarjan::Values;
+use tarjan::tarjan;
 
 pub fn find_compilation_order(pack: &[u8], c: Counts, area: &mut [u8]) -> Order
     requires { ⌜ Orders (now pack) c (now area) ⌝ }

@@ -12,10 +12,10 @@ use Rattle.laws.specs.Lists.{bit}
 use borrow.Author.Tests.{eq-eqb}
 use Rattle.laws.specs.Bounded.{get}
 use Rattle.laws.proofs.Choice.{fails}
-use Rattle.unionfind.specs.Codes.{isVar}
+use Rattle.unionfind.specs.Codes.{isVar, codes}
 use Rattle.unionfind.specs.Cells.{Knows}
 use Rattle.structure.proofs.Arrays.{zeros-get}
-use Rattle.words.specs.Notes.{nodes, codes, calls, noteOf, codeNoted, callNoted, divergesNoted, isSeen}
+use Rattle.words.specs.Notes.{nodes, calls, noteOf, codeNoted, callNoted, divergesNoted, isSeen}
 
 pub bit-small : (b : Bool) → bit b ≤ 1
 bit-small true = omega arith

@@ -3,14 +3,11 @@ use Prim.Native.Nat.{ℕ, _+_, _*_, _/_, _%_}
 use mathlib.Core.Bool.{Bool}
 use lib.Dec.{eqb}
 use Rattle.laws.specs.Lists.{bit}
+use Rattle.unionfind.specs.Codes.{codes}
 
 -- "expressions x ≤ 4,096"
 abbrev pub nodes : ℕ
 nodes = 4096
-
--- a type's code is a tag of 8 and a number of 16,384
-abbrev pub codes : ℕ
-codes = 131072
 
 -- "call 2 (1 Prefix new, 2 String append, 3 List concat)"
 abbrev pub calls : ℕ
@@ -18,7 +15,7 @@ calls = 4
 
 -- where the fields above the code start
 abbrev pub callAt : ℕ
-callAt = 131072
+callAt = codes
 
 abbrev pub divergesAt : ℕ
 divergesAt = 524288

@@ -1,6 +1,6 @@
 // Answers held to what is wanted: a refusal's number and place, its detail 0; or 0 and 0 where nothing is refused.
+use laws::Refusal;
 use laws::both;
-use pack::Refusal;
 use unionfind::Answer;
 use unionfind::Made;
 

@@ -1,7 +1,7 @@
 -- Module 4 is asked of a well-formed pack, one of its roots and an area with room alone.
 use mathlib.Core.Path.{sym, ap, _∙_}
 use Rattle.formed.proofs.Promises.{well-formed}
-use Rattle.rows.proofs.TableLaws.{limited}
+use Rattle.pack.proofs.CountLaws.{limited}
 use Rattle.entries.specs.Root.{rootChecked, checkedBy}
 use Rattle.entries.proofs.ReadyLaws.{root-ready}
 use borrow.Author.Needs.{needs}

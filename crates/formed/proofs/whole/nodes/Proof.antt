@@ -1,7 +1,8 @@
+use Prim.{tt}
 use Rattle.laws.proofs.First.{Left, goes, stops, ends}
 use Rattle.pack.specs.Answer.{refuse}
 use Rattle.pack.specs.declared.answer.Reading.the-variants.{Pack}
-use Rattle.formed.specs.Nodes.{nodeFits, nodesOf}
+use Rattle.trees.specs.Nodes.{nodeFits, nodesOf}
 use mathlib.Core.Path.{refl, sym, _∙_}
 use Prim.Native.Nat.{_-_}
 use borrow.Author.Needs.{needs}
@@ -16,4 +17,4 @@ abbrev μ-loop : tie.MeasureT-loop
 μ-loop pack c number uses places n e₀ e = n - e
 
 pub nodes-spec : {M : Type 1} → statement M
-nodes-spec = tie.close (tie.spec Inv-loop μ-loop (λ c. unfold nodesOf in record { says = refl }) (λ c κs. (omega arith, c .before .before .before .pre)) (λ c. search needs) (λ c. search needs) (λ c. goes (c .before .before .before .loop .inv) (omega arith) (sym (c .before .node-fits .ensures) ∙ c .if1 .taken)) (λ c κs. search needs) (λ c. c .refused .ensures ∙ stops (c .before .before .before .before .loop .inv) (omega arith) (sym (c .before .before .node-fits .ensures) ∙ c .before .if1 .left)) (λ c. ends (c .before .loop .inv) (omega arith)))
+nodes-spec = tie.close (tie.spec Inv-loop μ-loop (λ c. unfold nodesOf in record { says = refl }) (λ c κs. (omega arith, c .before .before .before .pre)) (λ c. search needs) (λ c. search needs) (λ c. goes (c .before .before .before .loop .inv) (omega arith) (sym (c .before .node-fits .ensures) ∙ c .if1 .taken)) (λ c κs. tt) (λ c. c .refused .ensures ∙ stops (c .before .before .before .before .loop .inv) (omega arith) (sym (c .before .before .node-fits .ensures) ∙ c .before .if1 .left)) (λ c. ends (c .before .loop .inv) (omega arith)))

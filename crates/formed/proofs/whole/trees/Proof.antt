@@ -1,6 +1,6 @@
 use Rattle.laws.proofs.Answers.{follows, stands}
 use Rattle.pack.specs.Answer.{passes}
-use Rattle.rows.proofs.TableLaws.{limited}
+use Rattle.pack.proofs.CountLaws.{limited}
 use Rattle.formed.specs.Formed.{treesOf}
 use Rattle.formed.proofs.Ready.{at-first-test, past-first-test}
 use mathlib.Core.Path.{ap, sym, refl, _∙_}

@@ -1,12 +1,11 @@
 -- `is_member`: the place found is below the end.
-use Rattle.members.specs.Lookup.{isMember}
-use borrow.Author.Needs.{needs}
+use Prim.{tt}
+use Rattle.members.proofs.Joins.{member-is}
 use Rattle.members.proofs.lists.is_member.Statement.{statement}
 use Rattle.members.proofs.lists.is_member.Tie as tie
 
 returns : tie.Need-returns
-unfolding isMember
-returns c = cc
+returns c = member-is _ _ _ _ (c .before .list-len .ensures .same) (c .pair-of .ensures)
 
 pub is-member-spec : {M : Type 1} → statement M
-is-member-spec = tie.close (tie.spec (λ c. search needs) (λ c. search needs) returns)
+is-member-spec = tie.close (tie.spec (λ c κs. tt) (λ c κs. tt) returns)

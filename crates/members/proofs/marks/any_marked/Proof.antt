@@ -1,4 +1,5 @@
 -- `any_marked`: whether one of the types is marked.
+use Prim.{tt}
 use Prim.Native.Nat.{_-_}
 use Rattle.pack.specs.Lists.{listLen, listItem}
 use Rattle.members.specs.Marks.{isMarked, anyMarked}
@@ -28,4 +29,4 @@ returns-2 : tie.Need-returns-2 Inv-loop μ-loop
 returns-2 c = any-ends (c .before .loop .inv) (omega (arith, c .before .before .list-len .ensures .same))
 
 pub any-marked-spec : {M : Type 1} → statement M
-any-marked-spec = tie.close (tie.spec Inv-loop μ-loop (λ c κs. search needs) loop-holds (λ c κs. search needs) (λ c κs. search needs) returns (λ c. search needs) (λ c. search needs) loop-again returns-2)
+any-marked-spec = tie.close (tie.spec Inv-loop μ-loop (λ c κs. tt) loop-holds (λ c κs. tt) (λ c κs. tt) returns (λ c. search needs) (λ c. search needs) loop-again returns-2)

@@ -1,4 +1,5 @@
 -- `note_names`: the names of the pairs below k are noted.
+use Prim.{tt}
 use mathlib.Core.Path.{_≡_, sym, ap}
 use lib.Dec.{eqb}
 use Prim.Native.Nat.{ℕ, _-_, _≤_}
@@ -25,4 +26,4 @@ returns : tie.Need-returns Inv-loop μ-loop
 returns c = let e : c .before .loop .k ≡ c .before .before .list-len .result = omega (arith, c .before .loop .inv .0) in rw (← c .before .before .list-len .ensures .same, ← e) (c .before .loop .inv .1)
 
 pub note-names-spec : {M : Type 1} → statement M
-note-names-spec = tie.close (tie.spec Inv-loop μ-loop (λ c κs. search needs) loop-holds (λ c κs. search needs) (λ c κs. search needs) (λ c. search needs) (λ c. search needs) loop-again returns)
+note-names-spec = tie.close (tie.spec Inv-loop μ-loop (λ c κs. tt) loop-holds (λ c κs. search needs) (λ c κs. tt) (λ c. search needs) (λ c. search needs) loop-again returns)

@@ -1,12 +1,11 @@
 -- `is_row`: by tag and kind.
-use Rattle.members.specs.Types.{isRow}
-use borrow.Author.Needs.{needs}
+use Prim.{tt}
+use Rattle.members.proofs.Joins.{row-is}
 use Rattle.members.proofs.types.is_row.Statement.{statement}
 use Rattle.members.proofs.types.is_row.Tie as tie
 
 returns : tie.Need-returns
-unfolding isRow
-returns c = cc
+returns c = row-is _ _ _ (c .before .before .before .before .number-of .ensures) (c .before .before .before .type-row .ensures) (c .before .before .tag-of .ensures) (c .both .ensures)
 
 pub is-row-spec : {M : Type 1} → statement M
-is-row-spec = tie.close (tie.spec (λ c. search needs) (λ c. search needs) (λ c. search needs) (λ c. search needs) returns)
+is-row-spec = tie.close (tie.spec (λ c κs. tt) (λ c κs. tt) (λ c κs. tt) (λ c κs. tt) returns)

@@ -5,7 +5,7 @@ use Rattle.rows.proofs.expressions.expression_known.Tie as tie
 
 returns : tie.Need-returns
 unfolding expressionKnown
-returns c = cc
+returns c = rw (← c .before .kind-known .ensures) (c .both .ensures)
 
 pub expression-known-spec : {M : Type 1} → statement M
 expression-known-spec = tie.close (tie.spec (λ c κs. search needs) (λ c κs. search needs) returns)

@@ -5,7 +5,7 @@ use Rattle.rows.proofs.expressions.unused.Tie as tie
 
 returns : tie.Need-returns
 unfolding unused
-returns c = cc
+returns c = rw (← c .before .both .ensures) (c .both2 .ensures)
 
 pub unused-spec : {M : Type 1} → statement M
 unused-spec = tie.close (tie.spec (λ c κs. search needs) (λ c κs. search needs) returns)

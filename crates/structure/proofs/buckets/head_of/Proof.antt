@@ -1,3 +1,4 @@
+use Prim.{tt}
 use mathlib.Core.Path.{sym, _∙_}
 use Rattle.laws.proofs.Bounded.{get-in}
 use borrow.Author.Needs.{needs}
@@ -12,4 +13,4 @@ returns : tie.Need-returns
 returns c = rw (← c .before .bucket-of .ensures .same) (get-in _ _ _ (c .before .bucket-of .ensures .small))
 
 pub head-of-spec : {M : Type 1} → statement M
-head-of-spec = tie.close (tie.spec (λ c κs. search needs) (λ c. search needs) mul-result (λ c. search needs) returns)
+head-of-spec = tie.close (tie.spec (λ c κs. tt) (λ c. search needs) mul-result (λ c. search needs) returns)

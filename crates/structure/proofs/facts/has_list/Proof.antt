@@ -1,7 +1,7 @@
+use Prim.{tt}
 use mathlib.Core.Path.{_≡_, refl, sym, _∙_}
 use Rattle.laws.proofs.Told.{eq, ne}
 use Rattle.structure.specs.Facts.{hasList}
-use borrow.Author.Needs.{needs}
 use Rattle.structure.proofs.facts.has_list.Statement.{statement}
 use Rattle.structure.proofs.facts.has_list.Tie as tie
 
@@ -14,4 +14,4 @@ unfolding hasList
 returns-2 c = rw (ne (c .before .entry-at .ensures) refl (c .if1 .left))
 
 pub has-list-spec : {M : Type 1} → statement M
-has-list-spec = tie.close (tie.spec (λ c κs. search needs) (λ c κs. search needs) (λ c κs. search needs) returns returns-2)
+has-list-spec = tie.close (tie.spec (λ c κs. tt) (λ c κs. tt) (λ c κs. tt) returns returns-2)

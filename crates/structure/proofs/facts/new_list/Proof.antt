@@ -1,3 +1,4 @@
+use Prim.{tt}
 use mathlib.Core.Path.{_≡_, refl, sym, ap, _∙_}
 use Rattle.laws.specs.Lists.{bit}
 use borrow.Author.Needs.{needs}
@@ -14,4 +15,4 @@ returns c = record {
 }
 
 pub new-list-spec : {M : Type 1} → statement M
-new-list-spec = tie.close (tie.spec (λ c κs. search needs) (λ c κs. search needs) (λ c κs. search needs) (λ c κs. search needs) (λ c κs. search needs) returns)
+new-list-spec = tie.close (tie.spec (λ c κs. tt) (λ c κs. tt) (λ c κs. tt) (λ c κs. search needs) (λ c κs. tt) returns)

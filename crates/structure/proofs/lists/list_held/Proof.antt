@@ -1,4 +1,5 @@
 -- `list_held`: no type of an item below m is marked.
+use Prim.{tt}
 use mathlib.Core.Path.{_≡_, refl, sym, ap, _∙_}
 use mathlib.Core.Bool.{not}
 use Prim.Native.Nat.{_-_}
@@ -34,4 +35,4 @@ unfolding heldIn
 returns-2 c = ap not (ends (c .before .loop .inv) (omega (arith, c .before .before .len-at .ensures .same)))
 
 pub list-held-spec : {M : Type 1} → statement M
-list-held-spec = tie.close (tie.spec Inv-loop μ-loop (λ c κs. search needs) loop-holds (λ c κs. search needs) (λ c κs. search needs) (λ c. search needs) (λ c. search needs) loop-again returns returns-2)
+list-held-spec = tie.close (tie.spec Inv-loop μ-loop (λ c κs. tt) loop-holds (λ c κs. search needs) (λ c κs. tt) (λ c. search needs) (λ c. search needs) loop-again returns returns-2)

@@ -1,4 +1,5 @@
 -- `list_print`: the fingerprint of the items below m.
+use Prim.{tt}
 use mathlib.Core.Path.{_≡_, refl, sym, ap, _∙_}
 use Prim.Native.Nat.{_-_, _≤_}
 use Rattle.structure.specs.Table.{entry, printIn}
@@ -25,4 +26,4 @@ returns : tie.Need-returns Inv-loop μ-loop
 returns c = let e : c .before .loop .m ≡ c .before .before .len-at .result = omega arith in c .before .loop .inv .1 ∙ rw (e, c .before .before .len-at .ensures .same)
 
 pub list-print-spec : {M : Type 1} → statement M
-list-print-spec = tie.close (tie.spec Inv-loop μ-loop (λ c κs. search needs) loop-holds (λ c κs. search needs) (λ c κs. search needs) (λ c κs. search needs) (λ c κs. search needs) (λ c. search needs) (λ c. search needs) loop-again returns)
+list-print-spec = tie.close (tie.spec Inv-loop μ-loop (λ c κs. tt) loop-holds (λ c κs. search needs) (λ c κs. search needs) (λ c κs. tt) (λ c κs. search needs) (λ c. search needs) (λ c. search needs) loop-again returns)

@@ -1,4 +1,5 @@
 -- `lists_like`: as long as each other, and then item by item.
+use Prim.{tt}
 use mathlib.Core.Path.{_≡_, refl, sym, ap, _∙_}
 use Rattle.laws.proofs.Told.{eq, ne}
 use Rattle.structure.specs.Table.{like}
@@ -15,4 +16,4 @@ unfolding like
 returns-2 c = rw (ne (c .before .before .len-at .ensures .same) (c .before .len-at2 .ensures .same) (c .if1 .left))
 
 pub lists-like-spec : {M : Type 1} → statement M
-lists-like-spec = tie.close (tie.spec (λ c κs. search needs) (λ c κs. search needs) (λ c κs. search needs) returns returns-2)
+lists-like-spec = tie.close (tie.spec (λ c κs. tt) (λ c κs. tt) (λ c κs. search needs) returns returns-2)

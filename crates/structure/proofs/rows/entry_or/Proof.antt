@@ -1,7 +1,7 @@
+use Prim.{tt}
 use mathlib.Core.Path.{refl}
 use Rattle.laws.proofs.Choice.{yes, no}
 use Rattle.laws.proofs.Told.{lt, nlt}
-use borrow.Author.Needs.{needs}
 use Rattle.structure.proofs.rows.entry_or.Statement.{statement}
 use Rattle.structure.proofs.rows.entry_or.Tie as tie
 
@@ -12,4 +12,4 @@ returns-2 : tie.Need-returns-2
 returns-2 c = no _ _ _ (nlt refl refl (c .if1 .left)) refl
 
 pub entry-or-spec : {M : Type 1} → statement M
-entry-or-spec = tie.close (tie.spec (λ c κs. search needs) returns returns-2)
+entry-or-spec = tie.close (tie.spec (λ c κs. tt) returns returns-2)

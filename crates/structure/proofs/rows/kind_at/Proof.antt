@@ -1,5 +1,5 @@
+use Prim.{tt}
 use Rattle.structure.proofs.Reading.{kind-is}
-use borrow.Author.Needs.{needs}
 use Rattle.structure.proofs.rows.kind_at.Statement.{statement}
 use Rattle.structure.proofs.rows.kind_at.Tie as tie
 
@@ -7,4 +7,4 @@ returns : tie.Need-returns
 returns c = kind-is _ _ (c .type-row .ensures)
 
 pub kind-at-spec : {M : Type 1} → statement M
-kind-at-spec = tie.close (tie.spec (λ c κs. search needs) returns)
+kind-at-spec = tie.close (tie.spec (λ c κs. tt) returns)

@@ -1,7 +1,7 @@
+use Prim.{tt}
 use mathlib.Core.Path.{refl, sym, _∙_}
 use Rattle.laws.proofs.Choice.{yes, no}
 use Rattle.structure.specs.Structure.{numberOf}
-use borrow.Author.Needs.{needs}
 use Rattle.structure.proofs.rows.row_number.Statement.{statement}
 use Rattle.structure.proofs.rows.row_number.Tie as tie
 
@@ -14,4 +14,4 @@ unfolding numberOf
 returns-2 c = no _ _ _ (sym (c .before .is-numbered .ensures) ∙ c .if1 .left) refl
 
 pub row-number-spec : {M : Type 1} → statement M
-row-number-spec = tie.close (tie.spec (λ c κs. search needs) returns returns-2)
+row-number-spec = tie.close (tie.spec (λ c κs. tt) returns returns-2)

@@ -1,4 +1,5 @@
 -- No row from j on passes.
+use Prim.{tt}
 use mathlib.Core.Path.{_≡_, refl, sym, _∙_}
 use Rattle.laws.proofs.Told.{eq, ne}
 use Rattle.structure.specs.Table.{hasKey}
@@ -31,4 +32,4 @@ returns-2 : tie.Need-returns-2 Inv-loop μ-loop
 returns-2 c = walk-none (c .before .loop .inv) (omega arith)
 
 pub row-with-key-spec : {M : Type 1} → statement M
-row-with-key-spec = tie.close (tie.spec Inv-loop μ-loop (λ c κs. search needs) loop-holds (λ c. search needs) (λ c κs. search needs) (λ c. search needs) returns (λ c. search needs) (λ c κs. search needs) loop-less loop-again returns-2)
+row-with-key-spec = tie.close (tie.spec Inv-loop μ-loop (λ c κs. tt) loop-holds (λ c. search needs) (λ c κs. tt) (λ c. search needs) returns (λ c. search needs) (λ c κs. tt) loop-less loop-again returns-2)

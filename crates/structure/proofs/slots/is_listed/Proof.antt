@@ -1,5 +1,5 @@
+use Prim.{tt}
 use Rattle.structure.specs.Lists.{listed}
-use borrow.Author.Needs.{needs}
 use Rattle.structure.proofs.slots.is_listed.Statement.{statement}
 use Rattle.structure.proofs.slots.is_listed.Tie as tie
 
@@ -8,4 +8,4 @@ unfolding listed
 returns c = cc
 
 pub is-listed-spec : {M : Type 1} → statement M
-is-listed-spec = tie.close (tie.spec (λ c κs. search needs) returns)
+is-listed-spec = tie.close (tie.spec (λ c κs. tt) returns)

@@ -1,5 +1,5 @@
+use Prim.{tt}
 use Rattle.structure.specs.Structure.{paired}
-use borrow.Author.Needs.{needs}
 use Rattle.structure.proofs.slots.is_paired.Statement.{statement}
 use Rattle.structure.proofs.slots.is_paired.Tie as tie
 
@@ -8,4 +8,4 @@ unfolding paired
 returns c = cc
 
 pub is-paired-spec : {M : Type 1} → statement M
-is-paired-spec = tie.close (tie.spec (λ c κs. search needs) returns)
+is-paired-spec = tie.close (tie.spec (λ c κs. tt) returns)

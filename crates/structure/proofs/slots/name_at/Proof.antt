@@ -1,3 +1,4 @@
+use Prim.{tt}
 use mathlib.Core.Path.{_≡_, refl, sym, _∙_}
 use Rattle.laws.proofs.Choice.{yes, no}
 use Rattle.structure.specs.Lists.{nameAt}
@@ -14,4 +15,4 @@ unfolding nameAt
 returns-2 c = record { same = no _ _ _ (sym (c .before .of-pairs .ensures) ∙ c .if1 .left) refl; small = search needs }
 
 pub name-at-spec : {M : Type 1} → statement M
-name-at-spec = tie.close (tie.spec (λ c κs. search needs) (λ c. search needs) (λ c κs. search needs) returns returns-2)
+name-at-spec = tie.close (tie.spec (λ c κs. tt) (λ c. search needs) (λ c κs. tt) returns returns-2)

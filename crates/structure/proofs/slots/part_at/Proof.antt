@@ -1,3 +1,4 @@
+use Prim.{tt}
 use mathlib.Core.Path.{_≡_, refl, sym, _∙_}
 use Rattle.laws.proofs.Choice.{yes, no}
 use Rattle.structure.specs.Lists.{partAt}
@@ -14,4 +15,4 @@ unfolding partAt
 returns-2 c = record { same = no _ _ _ (sym (c .before .before .of-pairs .ensures) ∙ c .before .if1 .left) (c .list-item2 .ensures .same); small = search needs }
 
 pub part-at-spec : {M : Type 1} → statement M
-part-at-spec = tie.close (tie.spec (λ c κs. search needs) (λ c. search needs) (λ c. search needs) (λ c κs. search needs) (λ c κs. search needs) returns returns-2)
+part-at-spec = tie.close (tie.spec (λ c κs. tt) (λ c. search needs) (λ c. search needs) (λ c κs. tt) (λ c κs. tt) returns returns-2)

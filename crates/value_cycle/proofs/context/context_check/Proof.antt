@@ -4,11 +4,11 @@ use mathlib.Core.Bool.{not}
 use Rattle.laws.proofs.First.{Left, goes, stops, ends}
 use Rattle.pack.specs.Named.{refsOf}
 use Rattle.components.specs.Answers.{first₅₂, usesContext}
+use Rattle.tarjan.specs.Values.{kindOf}
+use Rattle.tarjan.proofs.Sorts.{blank}
 use Rattle.value_cycle.specs.Context.{Sized, Clear}
 use Rattle.value_cycle.specs.Order.{contextAt}
-use Rattle.value_cycle.specs.Values.{kindOf}
 use Rattle.value_cycle.proofs.Constants.{held, passed-by}
-use Rattle.value_cycle.proofs.Sorts.{blank}
 use borrow.Author.Needs.{needs}
 use native.Mathlib.Omega.{arith}
 use Rattle.value_cycle.proofs.context.context_check.Statement.{statement}

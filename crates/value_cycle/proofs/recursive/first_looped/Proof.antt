@@ -5,10 +5,11 @@ use lib.ListN.{getD}
 use Rattle.laws.proofs.First.{Left, goes, stops, ends}
 use Rattle.pack.specs.Named.{refsOf}
 use Rattle.components.specs.Answers.{first₅₁, isLooped, order}
+use Rattle.tarjan.specs.Values.{kindOf}
+use Rattle.tarjan.proofs.Sorts.{is-value}
 use Rattle.value_cycle.specs.Order.{loopAt}
-use Rattle.value_cycle.specs.Values.{kindOf}
 use Rattle.value_cycle.proofs.Constants.{held, passed-by}
-use Rattle.value_cycle.proofs.Sorts.{is-value, looped-is}
+use Rattle.value_cycle.proofs.Looped.{looped-is}
 use borrow.Author.Needs.{needs}
 use native.Mathlib.Omega.{arith}
 use Rattle.value_cycle.proofs.recursive.first_looped.Statement.{statement}

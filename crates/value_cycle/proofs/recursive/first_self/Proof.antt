@@ -1,3 +1,4 @@
+use Prim.{tt}
 use Prim.Native.Nat.{_-_}
 use mathlib.Core.Path.{_≡_, refl, _∙_}
 use mathlib.Core.Bool.{not}
@@ -30,4 +31,4 @@ returns-2 : tie.Need-returns-2 Inv-loop μ-loop
 returns-2 c = c .before .loop .inv .0 ∙ ends (c .before .loop .inv .1) (omega (arith, c .loop-test .left, c .before .loop .inv .0))
 
 pub first-self-spec : {M : Type 1} → statement M
-first-self-spec = tie.close (tie.spec Inv-loop μ-loop loop-holds (λ c κs. search needs) returns (λ c. search needs) (λ c. search needs) loop-again returns-2)
+first-self-spec = tie.close (tie.spec Inv-loop μ-loop loop-holds (λ c κs. tt) returns (λ c. search needs) (λ c. search needs) loop-again returns-2)

@@ -1,9 +1,9 @@
+use Prim.{tt}
 use Rattle.laws.proofs.Told.{ne}
 use mathlib.Core.Path.{ap, _∙_, refl}
 use Rattle.components.specs.Answers.{has}
 use Rattle.pack.specs.Named.{itemsOf}
 use Rattle.value_cycle.proofs.Constants.{constant-and}
-use borrow.Author.Needs.{needs}
 use Rattle.value_cycle.proofs.recursive.lists_itself.Statement.{statement}
 use Rattle.value_cycle.proofs.recursive.lists_itself.Tie as tie
 
@@ -14,4 +14,4 @@ returns-2 : tie.Need-returns-2
 returns-2 c = rw (ne (c .before .before .kind-of .ensures) refl (c .if1 .left))
 
 pub lists-itself-spec : {M : Type 1} → statement M
-lists-itself-spec = tie.close (tie.spec (λ c κs. search needs) (λ c κs. search needs) (λ c κs. search needs) returns returns-2)
+lists-itself-spec = tie.close (tie.spec (λ c κs. tt) (λ c κs. tt) (λ c κs. tt) returns returns-2)

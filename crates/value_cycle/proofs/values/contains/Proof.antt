@@ -1,3 +1,4 @@
+use Prim.{tt}
 use Prim.Native.Nat.{_-_}
 use Rattle.value_cycle.proofs.Asks.{AskItems, items-all, item-found, item-passes, items-over}
 use borrow.Author.Needs.{needs}
@@ -23,4 +24,4 @@ returns-2 : tie.Need-returns-2 Inv-loop μ-loop
 returns-2 c = items-over (c .before .loop .inv) (c .loop-test .left)
 
 pub contains-spec : {M : Type 1} → statement M
-contains-spec = tie.close (tie.spec Inv-loop μ-loop (λ c κs. search needs) loop-holds (λ c κs. search needs) returns (λ c. search needs) (λ c. search needs) loop-again returns-2)
+contains-spec = tie.close (tie.spec Inv-loop μ-loop (λ c κs. tt) loop-holds (λ c κs. tt) returns (λ c. search needs) (λ c. search needs) loop-again returns-2)

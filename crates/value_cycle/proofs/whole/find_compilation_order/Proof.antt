@@ -1,5 +1,6 @@
+use Prim.{tt}
+use Rattle.tarjan.proofs.Sorts.{blank}
 use Rattle.value_cycle.proofs.Outcomes.{refused₅₀, refused₅₁, refused₅₂, all-listed, writes}
-use Rattle.value_cycle.proofs.Sorts.{blank}
 use borrow.Author.Needs.{needs}
 use native.Mathlib.Omega.{arith}
 use Rattle.value_cycle.proofs.whole.find_compilation_order.Statement.{statement}
@@ -33,4 +34,4 @@ returns-4 : tie.Need-returns-4
 returns-4 c = all-listed (c .before .before .before .before .before .before .before .before .before .before .before .before .before .before .before .before .before .before .before .before .before .before .before .pre) (c .before .before .before .before .before .before .before .before .before .before .before .before .before .before .before .before .before .before .before .before .first-self .ensures) (c .before .before .before .before .before .before .before .before .before .before .before .before .before .before .before .before .before .before .before .if1 .left) (c .before .before .before .before .before .before .before .before .before .before .before .before .before .before .tarjan .ensures) (c .before .before .before .before .before .before .before .before .before .first-looped .ensures) (c .before .before .before .before .before .before .before .before .if2 .left) (c .before .before .before .before .before .before .before .context-check .ensures) (c .before .before .before .before .before .before .if3 .left) (c .before .before .write-order .ensures)
 
 pub find-compilation-order-spec : {M : Type 1} → statement M
-find-compilation-order-spec = tie.close (tie.spec (λ c κs. search needs) (λ c κs. search needs) returns (λ c κs. search needs) (λ c κs. search needs) tarjan-requires first-looped-requires value-at-requires (λ c κs. search needs) returns-2 context-check-requires (λ c κs. search needs) returns-3 write-order-requires (λ c. search needs) returns-4)
+find-compilation-order-spec = tie.close (tie.spec (λ c κs. tt) (λ c κs. tt) returns (λ c κs. search needs) (λ c κs. search needs) tarjan-requires first-looped-requires value-at-requires (λ c κs. tt) returns-2 context-check-requires (λ c κs. tt) returns-3 write-order-requires (λ c. search needs) returns-4)

@@ -1,3 +1,4 @@
+use mathlib.Core.Path.{refl}
 use Rattle.words.specs.Notes.{noteOf}
 use Rattle.words.proofs.Noting.{bit-small}
 use borrow.Author.Needs.{needs}
@@ -19,7 +20,7 @@ add-result-3 c = omega (arith, bit-small (c .before .args .diverges), c .flag .e
 
 returns : tie.Need-returns
 unfolding noteOf
-returns c = cc
+returns c = rw (← c .flag .ensures) refl
 
 pub note-of-spec : {M : Type 1} → statement M
 note-of-spec = tie.close (tie.spec (λ c. search needs) mul-result add-result (λ c. search needs) add-result-2 add-result-3 returns)

@@ -1,3 +1,4 @@
+use mathlib.Core.Path.{refl}
 use Rattle.words.specs.Words.{encode}
 use Rattle.words.proofs.Noting.{bit-small}
 use borrow.Author.Needs.{needs}
@@ -19,7 +20,7 @@ add-result-3 c = omega (arith, bit-small (c .before .before .before .args .diver
 
 returns : tie.Need-returns
 unfolding encode
-returns c = cc
+returns c = rw (← c .before .before .flag .ensures, ← c .before .tag-of .ensures, ← c .number-of .ensures) refl
 
 pub encode-spec : {M : Type 1} → statement M
 encode-spec = tie.close (tie.spec (λ c. search needs) (λ c. search needs) (λ c. search needs) mul-result (λ c. search needs) add-result (λ c. search needs) add-result-2 add-result-3 returns)

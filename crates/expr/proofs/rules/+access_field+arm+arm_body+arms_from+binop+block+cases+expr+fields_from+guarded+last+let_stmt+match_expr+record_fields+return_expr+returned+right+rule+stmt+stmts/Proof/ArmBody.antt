@@ -9,11 +9,8 @@ use Rattle.expr.proofs.rules.guarded.Reads as guarded
 use Rattle.expr.proofs.rules.+access_field+arm+arm_body+arms_from+binop+block+cases+expr+fields_from+guarded+last+let_stmt+match_expr+record_fields+return_expr+returned+right+rule+stmt+stmts.Lts-arm_body as arm-body-lts
 use Rattle.expr.proofs.rules.+access_field+arm+arm_body+arms_from+binop+block+cases+expr+fields_from+guarded+last+let_stmt+match_expr+record_fields+return_expr+returned+right+rule+stmt+stmts.Proof.Common.{arm-body-at, expr-below, guarded-below}
 use borrow.Author.Needs.{needs}
-use Rattle.laws.proofs.Choice.{lets}
-use Rattle.expr.specs.Rules.{bodyRule}
-use Rattle.expr.proofs.Steps.{goes, stops, is}
 use Rattle.expr.proofs.Kept.{after, coded-more}
-use Rattle.expr.proofs.Meets.{meets-body}
+use Rattle.expr.proofs.Paths.{body-guard-stops, body-stops, body-is}
 use Rattle.expr.proofs.Keeps.{given-after}
 
 abbrev claims : ℕ → arm-body-lts.Claims
@@ -38,13 +35,13 @@ module _ (t : ℕ) where
   expr-requires c κs = (search needs, ((given-after (c .before .before .before .before .before .before .before .before .before .before .before .before .before .pre .1 .1 .0) (c .before .before .before .before .before .before .before .guarded .ensures) (c .before .before .before .before .before .g .given .1)), (coded-more (after (c .before .before .before .before .before .before .before .guarded .ensures) (c .before .before .before .before .before .g .given .1) .0) (c .before .before .before .before .before .before .before .before .before .before .before .before .before .pre .1 .1 .1))))
 
   returns : arm-body-lts.Need-returns (claims t) (arm-body-at t) arm-body.Post
-  returns c = meets-body (c .before .before .before .before .before .before .before .before .before .pre .1 .1 .0) _ (c .before .before .before .before .before .before .before .before .before .pre .1 .1 .1) _ _ _ (unfold bodyRule in lets _ (c .before .before .before .before .before .before .before .list-item .ensures .same) (stops _ (c .before .before .before .guarded .ensures .same) (c .before .f .given .1)))
+  returns c = body-guard-stops (c .before .before .before .before .before .before .before .before .before .pre .1 .1 .0) (c .before .before .before .before .before .before .before .before .before .pre .1 .1 .1) _ _ _ _ (c .before .before .before .before .before .before .before .list-item .ensures .same) (c .before .before .before .guarded .ensures) (c .before .f .given .1)
 
   returns-2 : arm-body-lts.Need-returns-2 (claims t) (arm-body-at t) arm-body.Post
-  returns-2 c = meets-body (c .before .before .before .before .before .before .before .before .before .before .before .before .before .before .before .before .before .pre .1 .1 .0) _ (c .before .before .before .before .before .before .before .before .before .before .before .before .before .before .before .before .before .pre .1 .1 .1) _ _ _ (unfold bodyRule in lets _ (c .before .before .before .before .before .before .before .before .before .before .before .before .before .before .before .list-item .ensures .same) (goes _ (c .before .before .before .before .before .before .before .before .before .before .before .guarded .ensures .same) (c .before .before .before .before .before .before .before .before .before .g .given .1) (lets _ (c .before .before .before .before .before .before .before .list-item2 .ensures .same) (stops _ (c .before .before .before .expr .ensures .same) (c .before .f2 .given .1)))))
+  returns-2 c = body-stops (c .before .before .before .before .before .before .before .before .before .before .before .before .before .before .before .before .before .pre .1 .1 .0) (c .before .before .before .before .before .before .before .before .before .before .before .before .before .before .before .before .before .pre .1 .1 .1) _ _ _ _ (c .before .before .before .before .before .before .before .before .before .before .before .before .before .before .before .list-item .ensures .same) (c .before .before .before .before .before .before .before .before .before .before .before .guarded .ensures) (c .before .before .before .before .before .before .before .before .before .g .given .1) (c .before .before .before .before .before .before .before .list-item2 .ensures .same) (c .before .before .before .expr .ensures) (c .before .f2 .given .1)
 
   returns-3 : arm-body-lts.Need-returns-3 (claims t) (arm-body-at t) arm-body.Post
-  returns-3 c = meets-body (c .before .before .before .before .before .before .before .before .before .before .before .before .before .before .before .before .before .before .before .before .pre .1 .1 .0) _ (c .before .before .before .before .before .before .before .before .before .before .before .before .before .before .before .before .before .before .before .before .pre .1 .1 .1) _ _ _ (unfold bodyRule in lets _ (c .before .before .before .before .before .before .before .before .before .before .before .before .before .before .before .before .before .before .list-item .ensures .same) (goes _ (c .before .before .before .before .before .before .before .before .before .before .before .before .before .before .guarded .ensures .same) (c .before .before .before .before .before .before .before .before .before .before .before .before .g .given .1) (lets _ (c .before .before .before .before .before .before .before .before .before .before .list-item2 .ensures .same) (goes _ (c .before .before .before .before .before .before .expr .ensures .same) (c .before .before .before .before .o .given .1) (lets _ (c .before .close-payload .ensures) (is (c .done .ensures)))))))
+  returns-3 c = body-is (c .before .before .before .before .before .before .before .before .before .before .before .before .before .before .before .before .before .before .before .before .pre .1 .1 .0) (c .before .before .before .before .before .before .before .before .before .before .before .before .before .before .before .before .before .before .before .before .pre .1 .1 .1) _ _ _ _ (c .before .before .before .before .before .before .before .before .before .before .before .before .before .before .before .before .before .before .list-item .ensures .same) (c .before .before .before .before .before .before .before .before .before .before .before .before .before .before .guarded .ensures) (c .before .before .before .before .before .before .before .before .before .before .before .before .g .given .1) (c .before .before .before .before .before .before .before .before .before .before .list-item2 .ensures .same) (c .before .before .before .before .before .before .expr .ensures) (c .before .before .before .before .o .given .1) (c .before .close-payload .ensures) (c .done .ensures)
 
   pub arm-body-closed : {M : Type 1} → arm-body-lts.Closed (claims t) (arm-body-at t) arm-body.Post M
   arm-body-closed =

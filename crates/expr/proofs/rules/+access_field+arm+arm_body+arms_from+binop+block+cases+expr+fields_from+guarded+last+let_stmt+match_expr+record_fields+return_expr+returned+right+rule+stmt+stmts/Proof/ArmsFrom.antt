@@ -10,12 +10,12 @@ use Rattle.expr.proofs.rules.arms_from.Reads as arms-from
 use Rattle.expr.proofs.rules.+access_field+arm+arm_body+arms_from+binop+block+cases+expr+fields_from+guarded+last+let_stmt+match_expr+record_fields+return_expr+returned+right+rule+stmt+stmts.Lts-arms_from as arms-from-lts
 use Rattle.expr.proofs.rules.+access_field+arm+arm_body+arms_from+binop+block+cases+expr+fields_from+guarded+last+let_stmt+match_expr+record_fields+return_expr+returned+right+rule+stmt+stmts.Proof.Common.{arm-below, arms-from-at, arms-from-below}
 use borrow.Author.Needs.{needs}
-use Rattle.laws.proofs.Choice.{yes, no, lets}
 use Rattle.expr.specs.Rules.{armsRule}
-use Rattle.expr.proofs.Steps.{goes, stops, is}
-use Rattle.expr.proofs.Recursions.{arms-none, arms-more}
+use Rattle.expr.proofs.Steps.{is}
+use Rattle.expr.proofs.Recursions.{arms-none}
 use Rattle.expr.proofs.Kept.{after, coded-more}
 use Rattle.expr.proofs.Meets.{meets-arms}
+use Rattle.expr.proofs.Paths.{arms-ended, arms-stop, arms-go}
 use Rattle.expr.proofs.Keeps.{given-after}
 
 abbrev claims : ℕ → arms-from-lts.Claims
@@ -41,7 +41,7 @@ module _ (t : ℕ) where
   returns c = meets-arms (c .before .before .before .pre .1 .1 .0) _ (c .before .before .before .pre .1 .1 .1) _ _ _ _ _ _ _ (arms-none _ _ _ _ _ _ _ _ _ _ _ _ (c .before .if1 .taken) (unfold armsRule in is (c .done .ensures)))
 
   returns-2 : arms-from-lts.Need-returns-2 (claims t) (arms-from-at t) arms-from.Post
-  returns-2 c = meets-arms (c .before .before .before .before .before .pre .1 .1 .0) _ (c .before .before .before .before .before .pre .1 .1 .1) _ _ _ _ _ _ _ (arms-more _ _ _ _ _ _ _ _ _ _ _ _ (c .before .before .before .if1 .left) (unfold armsRule in yes _ _ _ (c .before .before .if2 .taken) (lets _ (c .before .list-item .ensures .same) (is (c .refuse .ensures)))))
+  returns-2 c = arms-ended (c .before .before .before .before .before .pre .1 .1 .0) (c .before .before .before .before .before .pre .1 .1 .1) _ _ _ _ _ _ (c .before .before .before .if1 .left) _ (c .before .before .if2 .taken) (c .before .list-item .ensures .same) (is (c .refuse .ensures))
 
   arm-requires : arms-from-lts.Need-arm-requires (claims t) (arms-from-at t) arms-from.Post
   arm-requires c κs = (search needs, (search needs, ((c .before .before .before .before .before .before .pre .1 .1 .0), (c .before .before .before .before .before .before .pre .1 .1 .1))))
@@ -50,10 +50,10 @@ module _ (t : ℕ) where
   arms-from-requires c κs = (search needs, (search needs, ((given-after (c .before .before .before .before .before .before .before .before .before .before .before .before .before .before .before .pre .1 .1 .0) (c .before .before .before .before .before .before .before .before .arm .ensures) (c .before .before .before .before .before .before .o .given .1)), (coded-more (after (c .before .before .before .before .before .before .before .before .arm .ensures) (c .before .before .before .before .before .before .o .given .1) .0) (c .before .before .before .before .before .before .before .before .before .before .before .before .before .before .before .pre .1 .1 .1)))))
 
   returns-3 : arms-from-lts.Need-returns-3 (claims t) (arms-from-at t) arms-from.Post
-  returns-3 c = meets-arms (c .before .before .before .before .before .before .before .before .before .before .pre .1 .1 .0) _ (c .before .before .before .before .before .before .before .before .before .before .pre .1 .1 .1) _ _ _ _ _ _ _ (arms-more _ _ _ _ _ _ _ _ _ _ _ _ (c .before .before .before .before .before .before .before .before .if1 .left) (unfold armsRule in no _ _ _ (c .before .before .before .before .before .before .before .if2 .left) (stops _ (c .before .before .before .arm .ensures .same) (c .before .f .given .1))))
+  returns-3 c = arms-stop (c .before .before .before .before .before .before .before .before .before .before .pre .1 .1 .0) (c .before .before .before .before .before .before .before .before .before .before .pre .1 .1 .1) _ _ _ _ _ _ (c .before .before .before .before .before .before .before .before .if1 .left) _ (c .before .before .before .before .before .before .before .if2 .left) (c .before .before .before .arm .ensures) (c .before .f .given .1)
 
   returns-4 : arms-from-lts.Need-returns-4 (claims t) (arms-from-at t) arms-from.Post
-  returns-4 c = meets-arms (c .before .before .before .before .before .before .before .before .before .before .before .before .before .before .before .before .pre .1 .1 .0) _ (c .before .before .before .before .before .before .before .before .before .before .before .before .before .before .before .before .pre .1 .1 .1) _ _ _ _ _ _ _ (arms-more _ _ _ _ _ _ _ _ _ _ _ _ (c .before .before .before .before .before .before .before .before .before .before .before .before .before .before .if1 .left) (unfold armsRule in no _ _ _ (c .before .before .before .before .before .before .before .before .before .before .before .before .before .if2 .left) (goes _ (c .before .before .before .before .before .before .before .before .before .arm .ensures .same) (c .before .before .before .before .before .before .before .o .given .1) (lets _ (c .before .before .before .before .before .ends-arms .ensures) (lets _ (c .before .both .ensures) (c .arms-from .ensures .same))))))
+  returns-4 c = arms-go (c .before .before .before .before .before .before .before .before .before .before .before .before .before .before .before .before .pre .1 .1 .0) (c .before .before .before .before .before .before .before .before .before .before .before .before .before .before .before .before .pre .1 .1 .1) _ _ _ _ _ _ (c .before .before .before .before .before .before .before .before .before .before .before .before .before .before .if1 .left) _ (c .before .before .before .before .before .before .before .before .before .before .before .before .before .if2 .left) (c .before .before .before .before .before .before .before .before .before .arm .ensures) (c .before .before .before .before .before .before .before .o .given .1) (c .before .before .before .before .before .ends-arms .ensures) (c .before .both .ensures) (c .arms-from .ensures)
 
   pub arms-from-closed : {M : Type 1} → arms-from-lts.Closed (claims t) (arms-from-at t) arms-from.Post M
   arms-from-closed =

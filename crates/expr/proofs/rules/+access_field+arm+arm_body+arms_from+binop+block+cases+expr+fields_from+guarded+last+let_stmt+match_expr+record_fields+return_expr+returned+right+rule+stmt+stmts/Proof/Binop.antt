@@ -9,10 +9,12 @@ use Rattle.expr.proofs.rules.+access_field+arm+arm_body+arms_from+binop
 use Rattle.expr.proofs.rules.+access_field+arm+arm_body+arms_from+binop+block+cases+expr+fields_from+guarded+last+let_stmt+match_expr+record_fields+return_expr+returned+right+rule+stmt+stmts.Proof.Common.{binop-at, expr-below, right-below}
 use borrow.Author.Needs.{needs}
 use Rattle.expr.specs.Rules.{operatorRule}
-use Rattle.expr.proofs.Steps.{goes, stops, typed-as, typed-none}
-use Rattle.expr.proofs.Kept.{after, after-type, coded-more}
+use Rattle.expr.proofs.Steps.{stops}
+use Rattle.expr.proofs.Kept.{after, coded-more}
 use Rattle.expr.proofs.Meets.{meets-operator}
-use Rattle.expr.proofs.Keeps.{given-after, given-after-type}
+use Rattle.expr.proofs.Given.{given-typed, given-inner, own-inner, coded-inner}
+use Rattle.expr.proofs.Paths.{operator-none, operator-stops, operator-is}
+use Rattle.expr.proofs.Keeps.{given-after}
 
 abbrev claims : ℕ → binop-lts.Claims
 claims t = (
@@ -34,22 +36,22 @@ module _ (t : ℕ) where
   operand-type-requires c κs = (given-after (c .before .before .before .before .before .before .before .pre .1 .0) (c .before .before .before .before .bool-first .ensures .ran _ _ ((c .before .before .before .before .before .before .before .pre .1 .0) .ready)) (c .before .before .u .given .1)) .ready .live
 
   expr-requires : binop-lts.Need-expr-requires (claims t) (binop-at t) binop.Post
-  expr-requires c κs = (search needs, ((given-after-type (given-after (c .before .before .before .before .before .before .before .before .before .before .before .before .before .before .pre .1 .0) (c .before .before .before .before .before .before .before .before .before .before .before .bool-first .ensures .ran _ _ ((c .before .before .before .before .before .before .before .before .before .before .before .before .before .before .pre .1 .0) .ready)) (c .before .before .before .before .before .before .before .before .before .u .given .1)) (c .before .before .before .before .before .before .operand-type .ensures .ran _ _ ((given-after (c .before .before .before .before .before .before .before .before .before .before .before .before .before .before .pre .1 .0) (c .before .before .before .before .before .before .before .before .before .before .before .bool-first .ensures .ran _ _ ((c .before .before .before .before .before .before .before .before .before .before .before .before .before .before .pre .1 .0) .ready)) (c .before .before .before .before .before .before .before .before .before .u .given .1)) .ready)) (c .before .before .before .before .code .given .1)), (after-type (c .before .before .before .before .before .before .operand-type .ensures .ran _ _ ((given-after (c .before .before .before .before .before .before .before .before .before .before .before .before .before .before .pre .1 .0) (c .before .before .before .before .before .before .before .before .before .before .before .bool-first .ensures .ran _ _ ((c .before .before .before .before .before .before .before .before .before .before .before .before .before .before .pre .1 .0) .ready)) (c .before .before .before .before .before .before .before .before .before .u .given .1)) .ready)) (c .before .before .before .before .code .given .1) .1 .1)))
+  expr-requires c κs = (search needs, given-typed (given-after (c .before .before .before .before .before .before .before .before .before .before .before .before .before .before .pre .1 .0) (c .before .before .before .before .before .before .before .before .before .before .before .bool-first .ensures .ran _ _ ((c .before .before .before .before .before .before .before .before .before .before .before .before .before .before .pre .1 .0) .ready)) (c .before .before .before .before .before .before .before .before .before .u .given .1)) (c .before .before .before .before .before .before .operand-type .ensures) (c .before .before .before .before .code .given .1))
 
   right-requires : binop-lts.Need-right-requires (claims t) (binop-at t) binop.Post
-  right-requires c κs = (search (needs, c .before .before .before .before .before .before .before .before .before .before .before .before .before .before .before .before .before .before .before .before .before .pre .0), ((given-after (given-after-type (given-after (c .before .before .before .before .before .before .before .before .before .before .before .before .before .before .before .before .before .before .before .before .before .pre .1 .0) (c .before .before .before .before .before .before .before .before .before .before .before .before .before .before .before .before .before .before .bool-first .ensures .ran _ _ ((c .before .before .before .before .before .before .before .before .before .before .before .before .before .before .before .before .before .before .before .before .before .pre .1 .0) .ready)) (c .before .before .before .before .before .before .before .before .before .before .before .before .before .before .before .before .u .given .1)) (c .before .before .before .before .before .before .before .before .before .before .before .before .before .operand-type .ensures .ran _ _ ((given-after (c .before .before .before .before .before .before .before .before .before .before .before .before .before .before .before .before .before .before .before .before .before .pre .1 .0) (c .before .before .before .before .before .before .before .before .before .before .before .before .before .before .before .before .before .before .bool-first .ensures .ran _ _ ((c .before .before .before .before .before .before .before .before .before .before .before .before .before .before .before .before .before .before .before .before .before .pre .1 .0) .ready)) (c .before .before .before .before .before .before .before .before .before .before .before .before .before .before .before .before .u .given .1)) .ready)) (c .before .before .before .before .before .before .before .before .before .before .before .code .given .1)) (c .before .before .before .before .before .before .expr .ensures) (c .before .before .before .before .l .given .1)), (coded-more (after (c .before .before .before .before .before .before .expr .ensures) (c .before .before .before .before .l .given .1) .0) (coded-more (after-type (c .before .before .before .before .before .before .before .before .before .before .before .before .before .operand-type .ensures .ran _ _ ((given-after (c .before .before .before .before .before .before .before .before .before .before .before .before .before .before .before .before .before .before .before .before .before .pre .1 .0) (c .before .before .before .before .before .before .before .before .before .before .before .before .before .before .before .before .before .before .bool-first .ensures .ran _ _ ((c .before .before .before .before .before .before .before .before .before .before .before .before .before .before .before .before .before .before .before .before .before .pre .1 .0) .ready)) (c .before .before .before .before .before .before .before .before .before .before .before .before .before .before .before .before .u .given .1)) .ready)) (c .before .before .before .before .before .before .before .before .before .before .before .code .given .1) .0) (coded-more (after (c .before .before .before .before .before .before .before .before .before .before .before .before .before .before .before .before .before .before .bool-first .ensures .ran _ _ ((c .before .before .before .before .before .before .before .before .before .before .before .before .before .before .before .before .before .before .before .before .before .pre .1 .0) .ready)) (c .before .before .before .before .before .before .before .before .before .before .before .before .before .before .before .before .u .given .1) .0) (c .before .before .before .before .before .before .before .before .before .before .before .before .before .before .before .before .before .before .before .before .before .pre .1 .1))), coded-more (after (c .before .before .before .before .before .before .expr .ensures) (c .before .before .before .before .l .given .1) .0) (after-type (c .before .before .before .before .before .before .before .before .before .before .before .before .before .operand-type .ensures .ran _ _ ((given-after (c .before .before .before .before .before .before .before .before .before .before .before .before .before .before .before .before .before .before .before .before .before .pre .1 .0) (c .before .before .before .before .before .before .before .before .before .before .before .before .before .before .before .before .before .before .bool-first .ensures .ran _ _ ((c .before .before .before .before .before .before .before .before .before .before .before .before .before .before .before .before .before .before .before .before .before .pre .1 .0) .ready)) (c .before .before .before .before .before .before .before .before .before .before .before .before .before .before .before .before .u .given .1)) .ready)) (c .before .before .before .before .before .before .before .before .before .before .before .code .given .1) .1 .1))))
+  right-requires c κs = (search (needs, c .before .before .before .before .before .before .before .before .before .before .before .before .before .before .before .before .before .before .before .before .before .pre .0), (given-inner (given-after (c .before .before .before .before .before .before .before .before .before .before .before .before .before .before .before .before .before .before .before .before .before .pre .1 .0) (c .before .before .before .before .before .before .before .before .before .before .before .before .before .before .before .before .before .before .bool-first .ensures .ran _ _ ((c .before .before .before .before .before .before .before .before .before .before .before .before .before .before .before .before .before .before .before .before .before .pre .1 .0) .ready)) (c .before .before .before .before .before .before .before .before .before .before .before .before .before .before .before .before .u .given .1)) (c .before .before .before .before .before .before .before .before .before .before .before .before .before .operand-type .ensures) (c .before .before .before .before .before .before .before .before .before .before .before .code .given .1) (c .before .before .before .before .before .before .expr .ensures) (c .before .before .before .before .l .given .1), (coded-inner (given-after (c .before .before .before .before .before .before .before .before .before .before .before .before .before .before .before .before .before .before .before .before .before .pre .1 .0) (c .before .before .before .before .before .before .before .before .before .before .before .before .before .before .before .before .before .before .bool-first .ensures .ran _ _ ((c .before .before .before .before .before .before .before .before .before .before .before .before .before .before .before .before .before .before .before .before .before .pre .1 .0) .ready)) (c .before .before .before .before .before .before .before .before .before .before .before .before .before .before .before .before .u .given .1)) (c .before .before .before .before .before .before .before .before .before .before .before .before .before .operand-type .ensures) (c .before .before .before .before .before .before .before .before .before .before .before .code .given .1) (c .before .before .before .before .before .before .expr .ensures) (c .before .before .before .before .l .given .1) (coded-more (after (c .before .before .before .before .before .before .before .before .before .before .before .before .before .before .before .before .before .before .bool-first .ensures .ran _ _ ((c .before .before .before .before .before .before .before .before .before .before .before .before .before .before .before .before .before .before .before .before .before .pre .1 .0) .ready)) (c .before .before .before .before .before .before .before .before .before .before .before .before .before .before .before .before .u .given .1) .0) (c .before .before .before .before .before .before .before .before .before .before .before .before .before .before .before .before .before .before .before .before .before .pre .1 .1)), own-inner (given-after (c .before .before .before .before .before .before .before .before .before .before .before .before .before .before .before .before .before .before .before .before .before .pre .1 .0) (c .before .before .before .before .before .before .before .before .before .before .before .before .before .before .before .before .before .before .bool-first .ensures .ran _ _ ((c .before .before .before .before .before .before .before .before .before .before .before .before .before .before .before .before .before .before .before .before .before .pre .1 .0) .ready)) (c .before .before .before .before .before .before .before .before .before .before .before .before .before .before .before .before .u .given .1)) (c .before .before .before .before .before .before .before .before .before .before .before .before .before .operand-type .ensures) (c .before .before .before .before .before .before .before .before .before .before .before .code .given .1) (c .before .before .before .before .before .before .expr .ensures) (c .before .before .before .before .l .given .1))))
 
   returns : binop-lts.Need-returns (claims t) (binop-at t) binop.Post
   returns c = meets-operator (c .before .before .before .before .before .before .pre .1 .0) _ (c .before .before .before .before .before .before .pre .1 .1) _ (c .before .before .before .before .before .before .args .n) (unfold operatorRule in stops _ ((c .before .before .before .bool-first .ensures .ran _ _ ((c .before .before .before .before .before .before .pre .1 .0) .ready)) .same) (c .before .f .given .1))
 
   returns-2 : binop-lts.Need-returns-2 (claims t) (binop-at t) binop.Post
-  returns-2 c = meets-operator (c .before .before .before .before .before .before .before .before .before .before .before .pre .1 .0) _ (c .before .before .before .before .before .before .before .before .before .before .before .pre .1 .1) _ (c .before .before .before .before .before .before .before .before .before .before .before .args .n) (unfold operatorRule in goes _ ((c .before .before .before .before .before .before .before .before .bool-first .ensures .ran _ _ ((c .before .before .before .before .before .before .before .before .before .before .before .pre .1 .0) .ready)) .same) (c .before .before .before .before .before .before .u .given .1) (typed-none _ ((c .before .before .before .operand-type .ensures .ran _ _ ((given-after (c .before .before .before .before .before .before .before .before .before .before .before .pre .1 .0) (c .before .before .before .before .before .before .before .before .bool-first .ensures .ran _ _ ((c .before .before .before .before .before .before .before .before .before .before .before .pre .1 .0) .ready)) (c .before .before .before .before .before .before .u .given .1)) .ready)) .same) (c .before .f2 .given .1)))
+  returns-2 c = operator-none (c .before .before .before .before .before .before .before .before .before .before .before .pre .1 .0) (c .before .before .before .before .before .before .before .before .before .before .before .pre .1 .1) _ _ _ (c .before .before .before .before .before .before .before .before .bool-first .ensures) (c .before .before .before .before .before .before .u .given .1) (c .before .before .before .operand-type .ensures) (c .before .f2 .given .1)
 
   returns-3 : binop-lts.Need-returns-3 (claims t) (binop-at t) binop.Post
-  returns-3 c = meets-operator (c .before .before .before .before .before .before .before .before .before .before .before .before .before .before .before .before .before .before .pre .1 .0) _ (c .before .before .before .before .before .before .before .before .before .before .before .before .before .before .before .before .before .before .pre .1 .1) _ (c .before .before .before .before .before .before .before .before .before .before .before .before .before .before .before .before .before .before .args .n) (unfold operatorRule in goes _ ((c .before .before .before .before .before .before .before .before .before .before .before .before .before .before .before .bool-first .ensures .ran _ _ ((c .before .before .before .before .before .before .before .before .before .before .before .before .before .before .before .before .before .before .pre .1 .0) .ready)) .same) (c .before .before .before .before .before .before .before .before .before .before .before .before .before .u .given .1) (typed-as _ ((c .before .before .before .before .before .before .before .before .before .before .operand-type .ensures .ran _ _ ((given-after (c .before .before .before .before .before .before .before .before .before .before .before .before .before .before .before .before .before .before .pre .1 .0) (c .before .before .before .before .before .before .before .before .before .before .before .before .before .before .before .bool-first .ensures .ran _ _ ((c .before .before .before .before .before .before .before .before .before .before .before .before .before .before .before .before .before .before .pre .1 .0) .ready)) (c .before .before .before .before .before .before .before .before .before .before .before .before .before .u .given .1)) .ready)) .same) (c .before .before .before .before .before .before .before .before .code .given .1) (stops _ (c .before .before .before .expr .ensures .same) (c .before .f3 .given .1))))
+  returns-3 c = operator-stops (c .before .before .before .before .before .before .before .before .before .before .before .before .before .before .before .before .before .before .pre .1 .0) (c .before .before .before .before .before .before .before .before .before .before .before .before .before .before .before .before .before .before .pre .1 .1) _ _ _ (c .before .before .before .before .before .before .before .before .before .before .before .before .before .before .before .bool-first .ensures) (c .before .before .before .before .before .before .before .before .before .before .before .before .before .u .given .1) (c .before .before .before .before .before .before .before .before .before .before .operand-type .ensures) (c .before .before .before .before .before .before .before .before .code .given .1) (c .before .before .before .expr .ensures) (c .before .f3 .given .1)
 
   returns-4 : binop-lts.Need-returns-4 (claims t) (binop-at t) binop.Post
-  returns-4 c = meets-operator (c .before .before .before .before .before .before .before .before .before .before .before .before .before .before .before .before .before .before .before .before .before .before .pre .1 .0) _ (c .before .before .before .before .before .before .before .before .before .before .before .before .before .before .before .before .before .before .before .before .before .before .pre .1 .1) _ (c .before .before .before .before .before .before .before .before .before .before .before .before .before .before .before .before .before .before .before .before .before .before .args .n) (unfold operatorRule in goes _ ((c .before .before .before .before .before .before .before .before .before .before .before .before .before .before .before .before .before .before .before .bool-first .ensures .ran _ _ ((c .before .before .before .before .before .before .before .before .before .before .before .before .before .before .before .before .before .before .before .before .before .before .pre .1 .0) .ready)) .same) (c .before .before .before .before .before .before .before .before .before .before .before .before .before .before .before .before .before .u .given .1) (typed-as _ ((c .before .before .before .before .before .before .before .before .before .before .before .before .before .before .operand-type .ensures .ran _ _ ((given-after (c .before .before .before .before .before .before .before .before .before .before .before .before .before .before .before .before .before .before .before .before .before .before .pre .1 .0) (c .before .before .before .before .before .before .before .before .before .before .before .before .before .before .before .before .before .before .before .bool-first .ensures .ran _ _ ((c .before .before .before .before .before .before .before .before .before .before .before .before .before .before .before .before .before .before .before .before .before .before .pre .1 .0) .ready)) (c .before .before .before .before .before .before .before .before .before .before .before .before .before .before .before .before .before .u .given .1)) .ready)) .same) (c .before .before .before .before .before .before .before .before .before .before .before .before .code .given .1) (goes _ (c .before .before .before .before .before .before .before .expr .ensures .same) (c .before .before .before .before .before .l .given .1) (c .right .ensures .same))))
+  returns-4 c = operator-is (c .before .before .before .before .before .before .before .before .before .before .before .before .before .before .before .before .before .before .before .before .before .before .pre .1 .0) (c .before .before .before .before .before .before .before .before .before .before .before .before .before .before .before .before .before .before .before .before .before .before .pre .1 .1) _ _ _ (c .before .before .before .before .before .before .before .before .before .before .before .before .before .before .before .before .before .before .before .bool-first .ensures) (c .before .before .before .before .before .before .before .before .before .before .before .before .before .before .before .before .before .u .given .1) (c .before .before .before .before .before .before .before .before .before .before .before .before .before .before .operand-type .ensures) (c .before .before .before .before .before .before .before .before .before .before .before .before .code .given .1) (c .before .before .before .before .before .before .before .expr .ensures) (c .before .before .before .before .before .l .given .1) (c .right .ensures)
 
   pub binop-closed : {M : Type 1} → binop-lts.Closed (claims t) (binop-at t) binop.Post M
   binop-closed =

@@ -12,11 +12,8 @@ use Rattle.expr.proofs.rules.stmts.Reads as stmts
 use Rattle.expr.proofs.rules.+access_field+arm+arm_body+arms_from+binop+block+cases+expr+fields_from+guarded+last+let_stmt+match_expr+record_fields+return_expr+returned+right+rule+stmt+stmts.Lts-block as block-lts
 use Rattle.expr.proofs.rules.+access_field+arm+arm_body+arms_from+binop+block+cases+expr+fields_from+guarded+last+let_stmt+match_expr+record_fields+return_expr+returned+right+rule+stmt+stmts.Proof.Common.{block-at, last-below, stmts-below}
 use borrow.Author.Needs.{needs}
-use Rattle.laws.proofs.Choice.{lets}
-use Rattle.expr.specs.Rules.{blockRule}
-use Rattle.expr.proofs.Steps.{goes, stops, is}
 use Rattle.expr.proofs.Kept.{after, coded-more}
-use Rattle.expr.proofs.Meets.{meets-block}
+use Rattle.expr.proofs.Paths.{block-stops, block-last-stops, block-is}
 use Rattle.expr.proofs.Keeps.{given-after}
 
 abbrev claims : ℕ → block-lts.Claims
@@ -47,13 +44,13 @@ module _ (t : ℕ) where
   last-requires c κs = (search needs, ((given-after (c .before .before .before .before .before .before .before .before .before .before .before .before .pre .1 .0) (c .before .before .before .before .before .before .stmts .ensures) (c .before .before .before .before .o .given .1)), (coded-more (after (c .before .before .before .before .before .before .stmts .ensures) (c .before .before .before .before .o .given .1) .0) (c .before .before .before .before .before .before .before .before .before .before .before .before .pre .1 .1))))
 
   returns : block-lts.Need-returns (claims t) (block-at t) block.Post
-  returns c = meets-block (c .before .before .before .before .before .before .before .before .before .pre .1 .0) _ (c .before .before .before .before .before .before .before .before .before .pre .1 .1) _ (c .before .before .before .before .before .before .before .before .before .args .n) (unfold blockRule in lets _ (c .before .before .before .before .before .before .before .list-len .ensures .same) (stops _ (c .before .before .before .stmts .ensures .same) (c .before .f .given .1)))
+  returns c = block-stops (c .before .before .before .before .before .before .before .before .before .pre .1 .0) (c .before .before .before .before .before .before .before .before .before .pre .1 .1) _ _ _ (c .before .before .before .before .before .before .before .list-len .ensures .same) (c .before .before .before .stmts .ensures) (c .before .f .given .1)
 
   returns-2 : block-lts.Need-returns-2 (claims t) (block-at t) block.Post
-  returns-2 c = meets-block (c .before .before .before .before .before .before .before .before .before .before .before .before .before .before .before .before .pre .1 .0) _ (c .before .before .before .before .before .before .before .before .before .before .before .before .before .before .before .before .pre .1 .1) _ (c .before .before .before .before .before .before .before .before .before .before .before .before .before .before .before .before .args .n) (unfold blockRule in lets _ (c .before .before .before .before .before .before .before .before .before .before .before .before .before .before .list-len .ensures .same) (goes _ (c .before .before .before .before .before .before .before .before .before .before .stmts .ensures .same) (c .before .before .before .before .before .before .before .before .o .given .1) (stops _ (c .before .before .before .last .ensures .same) (c .before .f2 .given .1))))
+  returns-2 c = block-last-stops (c .before .before .before .before .before .before .before .before .before .before .before .before .before .before .before .before .pre .1 .0) (c .before .before .before .before .before .before .before .before .before .before .before .before .before .before .before .before .pre .1 .1) _ _ _ (c .before .before .before .before .before .before .before .before .before .before .before .before .before .before .list-len .ensures .same) (c .before .before .before .before .before .before .before .before .before .before .stmts .ensures) (c .before .before .before .before .before .before .before .before .o .given .1) (c .before .before .before .last .ensures) (c .before .f2 .given .1)
 
   returns-3 : block-lts.Need-returns-3 (claims t) (block-at t) block.Post
-  returns-3 c = meets-block (c .before .before .before .before .before .before .before .before .before .before .before .before .before .before .before .before .before .before .before .before .before .before .before .before .pre .1 .0) _ (c .before .before .before .before .before .before .before .before .before .before .before .before .before .before .before .before .before .before .before .before .before .before .before .before .pre .1 .1) _ (c .before .before .before .before .before .before .before .before .before .before .before .before .before .before .before .before .before .before .before .before .before .before .before .before .args .n) (unfold blockRule in lets _ (c .before .before .before .before .before .before .before .before .before .before .before .before .before .before .before .before .before .before .before .before .before .before .list-len .ensures .same) (goes _ (c .before .before .before .before .before .before .before .before .before .before .before .before .before .before .before .before .before .before .stmts .ensures .same) (c .before .before .before .before .before .before .before .before .before .before .before .before .before .before .before .before .o .given .1) (goes _ (c .before .before .before .before .before .before .before .before .before .before .before .last .ensures .same) (c .before .before .before .before .before .before .before .before .before .l .given .1) (lets _ (c .before .before .before .before .before .before .close-lets .ensures) (lets _ (c .before .before .before .before .last-code .ensures) (lets _ (c .before .before .record-type .ensures) (lets _ (c .before .either .ensures) (is (c .done .ensures)))))))))
+  returns-3 c = block-is (c .before .before .before .before .before .before .before .before .before .before .before .before .before .before .before .before .before .before .before .before .before .before .before .before .pre .1 .0) (c .before .before .before .before .before .before .before .before .before .before .before .before .before .before .before .before .before .before .before .before .before .before .before .before .pre .1 .1) _ _ _ (c .before .before .before .before .before .before .before .before .before .before .before .before .before .before .before .before .before .before .before .before .before .before .list-len .ensures .same) (c .before .before .before .before .before .before .before .before .before .before .before .before .before .before .before .before .before .before .stmts .ensures) (c .before .before .before .before .before .before .before .before .before .before .before .before .before .before .before .before .o .given .1) (c .before .before .before .before .before .before .before .before .before .before .before .last .ensures) (c .before .before .before .before .before .before .before .before .before .l .given .1) (c .before .before .before .before .before .before .close-lets .ensures) (c .before .before .before .before .last-code .ensures) (c .before .before .record-type .ensures) (c .before .either .ensures) (c .done .ensures)
 
   pub block-closed : {M : Type 1} → block-lts.Closed (claims t) (block-at t) block.Post M
   block-closed =

@@ -8,13 +8,12 @@ use Rattle.expr.proofs.rules.expr.Reads as expr
 use Rattle.expr.proofs.rules.rule.Reads as rule
 use Rattle.expr.proofs.rules.+access_field+arm+arm_body+arms_from+binop+block+cases+expr+fields_from+guarded+last+let_stmt+match_expr+record_fields+return_expr+returned+right+rule+stmt+stmts.Lts-expr as expr-lts
 use Rattle.expr.proofs.rules.+access_field+arm+arm_body+arms_from+binop+block+cases+expr+fields_from+guarded+last+let_stmt+match_expr+record_fields+return_expr+returned+right+rule+stmt+stmts.Proof.Common.{expr-at, rule-below}
-use mathlib.Core.Path.{refl}
 use borrow.Author.Needs.{needs}
-use Rattle.laws.proofs.Choice.{lets}
-use Rattle.expr.specs.Rules.{nodeRule, exprRule}
-use Rattle.expr.proofs.Steps.{goes, stops, is}
-use Rattle.expr.proofs.Recursions.{expr-none, expr-more}
+use Rattle.expr.specs.Rules.{exprRule}
+use Rattle.expr.proofs.Steps.{is}
+use Rattle.expr.proofs.Recursions.{expr-none}
 use Rattle.expr.proofs.Meets.{meets-expr}
+use Rattle.expr.proofs.Paths.{expr-stops, expr-is}
 use Rattle.expr.proofs.Given.{given-recorded}
 
 abbrev claims : ℕ → expr-lts.Claims
@@ -39,10 +38,10 @@ module _ (t : ℕ) where
   rule-requires c κs = (search needs, ((given-recorded (c .before .before .before .before .before .before .before .before .pre .1 .0) _ _ (c .before .before .before .record-type .ensures) (c .before .before .before .before .before .before .before .before .pre .1 .1)), (c .before .before .before .before .before .before .before .before .pre .1 .1)))
 
   returns-2 : expr-lts.Need-returns-2 (claims t) (expr-at t) expr.Post
-  returns-2 c = meets-expr (c .before .before .before .before .before .before .before .before .before .before .before .before .pre .1 .0) _ (c .before .before .before .before .before .before .before .before .before .before .before .before .pre .1 .1) _ (expr-more _ _ _ _ _ _ (c .before .before .before .before .before .before .before .before .before .before .if1 .left) (unfold exprRule nodeRule in lets _ (c .before .before .before .before .before .before .before .before .before .expression-row .ensures) (lets _ (c .before .before .before .before .before .before .before .record-type .ensures) (stops _ (lets _ refl (c .before .before .before .rule .ensures .same)) (c .before .f .given .1)))))
+  returns-2 c = expr-stops (c .before .before .before .before .before .before .before .before .before .before .before .before .pre .1 .0) (c .before .before .before .before .before .before .before .before .before .before .before .before .pre .1 .1) _ _ (c .before .before .before .before .before .before .before .before .before .before .if1 .left) (c .before .before .before .before .before .before .before .before .before .expression-row .ensures) (c .before .before .before .before .before .before .before .record-type .ensures) (c .before .before .before .rule .ensures) (c .before .f .given .1)
 
   returns-3 : expr-lts.Need-returns-3 (claims t) (expr-at t) expr.Post
-  returns-3 c = meets-expr (c .before .before .before .before .before .before .before .before .before .before .before .before .before .before .pre .1 .0) _ (c .before .before .before .before .before .before .before .before .before .before .before .before .before .before .pre .1 .1) _ (expr-more _ _ _ _ _ _ (c .before .before .before .before .before .before .before .before .before .before .before .before .if1 .left) (unfold exprRule nodeRule in lets _ (c .before .before .before .before .before .before .before .before .before .before .before .expression-row .ensures) (lets _ (c .before .before .before .before .before .before .before .before .before .record-type .ensures) (goes _ (lets _ refl (c .before .before .before .before .before .rule .ensures .same)) (c .before .before .before .o .given .1) (lets _ (c .seal .ensures) (refl))))))
+  returns-3 c = expr-is (c .before .before .before .before .before .before .before .before .before .before .before .before .before .before .pre .1 .0) (c .before .before .before .before .before .before .before .before .before .before .before .before .before .before .pre .1 .1) _ _ (c .before .before .before .before .before .before .before .before .before .before .before .before .if1 .left) (c .before .before .before .before .before .before .before .before .before .before .before .expression-row .ensures) (c .before .before .before .before .before .before .before .before .before .record-type .ensures) (c .before .before .before .before .before .rule .ensures) (c .before .before .before .o .given .1) (c .seal .ensures)
 
   pub expr-closed : {M : Type 1} → expr-lts.Closed (claims t) (expr-at t) expr.Post M
   expr-closed =

@@ -10,11 +10,11 @@ use Rattle.expr.proofs.rules.fields_from.Reads as fields-from
 use Rattle.expr.proofs.rules.+access_field+arm+arm_body+arms_from+binop+block+cases+expr+fields_from+guarded+last+let_stmt+match_expr+record_fields+return_expr+returned+right+rule+stmt+stmts.Lts-fields_from as fields-from-lts
 use Rattle.expr.proofs.rules.+access_field+arm+arm_body+arms_from+binop+block+cases+expr+fields_from+guarded+last+let_stmt+match_expr+record_fields+return_expr+returned+right+rule+stmt+stmts.Proof.Common.{expr-below, fields-from-at, fields-from-below}
 use borrow.Author.Needs.{needs}
-use Rattle.laws.proofs.Choice.{lets}
 use Rattle.expr.specs.Rules.{fieldsRule}
-use Rattle.expr.proofs.Steps.{goes, stops, is}
-use Rattle.expr.proofs.Recursions.{fields-none, fields-more}
+use Rattle.expr.proofs.Steps.{is}
+use Rattle.expr.proofs.Recursions.{fields-none}
 use Rattle.expr.proofs.Meets.{meets-fields}
+use Rattle.expr.proofs.Paths.{fields-stop, fields-go}
 use Rattle.expr.proofs.Keeps.{given-after}
 use Rattle.expr.proofs.Given.{field-coded, fields-left}
 
@@ -50,10 +50,10 @@ module _ (t : ℕ) where
   fields-from-requires c κs = (search needs, ((search (needs, c .before .before .before .before .before .before .before .before .before .before .before .before .before .before .before .before .before .pre .1 .0 .0, c .before .before .before .before .before .before .before .before .before .before .before .before .before .before .before .if1 .left), fields-left (c .before .before .before .before .before .before .before .before .before .before .before .before .before .before .before .before .before .pre .1 .0 .1) (c .before .before .before .before .before .before .before .before .before .before .before .before .before .before .before .if1 .left)), given-after (c .before .before .before .before .before .before .before .before .before .before .before .before .before .before .before .before .before .pre .1 .1) (c .before .before .before .before .before .before .before .expr .ensures) (c .before .before .before .before .before .o .given .1)))
 
   returns-2 : fields-from-lts.Need-returns-2 (claims t) (fields-from-at t) fields-from.Post
-  returns-2 c = meets-fields (c .before .before .before .before .before .before .before .before .before .before .before .before .before .pre .1 .1) _ _ _ _ _ _ (c .before .before .before .before .before .before .before .before .before .before .before .before .before .pre .1 .0 .1) (fields-more _ _ _ _ _ _ _ _ _ (c .before .before .before .before .before .before .before .before .before .before .before .if1 .left) (unfold fieldsRule in lets _ (c .before .before .before .before .before .before .before .before .before .before .list-item .ensures .same) (lets _ (c .before .before .before .before .before .before .before .before .before .list-item2 .ensures .same) (lets _ (c .before .before .before .before .before .before .before .before .member-of .ensures) (lets _ (c .before .before .before .before .before .before .before .type-code .ensures) (stops _ (c .before .before .before .expr .ensures .same) (c .before .f .given .1)))))))
+  returns-2 c = fields-stop (c .before .before .before .before .before .before .before .before .before .before .before .before .before .pre .1 .1) _ _ _ _ _ _ (c .before .before .before .before .before .before .before .before .before .before .before .before .before .pre .1 .0 .1) (c .before .before .before .before .before .before .before .before .before .before .before .if1 .left) (c .before .before .before .before .before .before .before .before .before .before .list-item .ensures .same) (c .before .before .before .before .before .before .before .before .before .list-item2 .ensures .same) (c .before .before .before .before .before .before .before .before .member-of .ensures) (c .before .before .before .before .before .before .before .type-code .ensures) (c .before .before .before .expr .ensures) (c .before .f .given .1)
 
   returns-3 : fields-from-lts.Need-returns-3 (claims t) (fields-from-at t) fields-from.Post
-  returns-3 c = meets-fields (c .before .before .before .before .before .before .before .before .before .before .before .before .before .before .before .before .before .before .pre .1 .1) _ _ _ _ _ _ (c .before .before .before .before .before .before .before .before .before .before .before .before .before .before .before .before .before .before .pre .1 .0 .1) (fields-more _ _ _ _ _ _ _ _ _ (c .before .before .before .before .before .before .before .before .before .before .before .before .before .before .before .before .if1 .left) (unfold fieldsRule in lets _ (c .before .before .before .before .before .before .before .before .before .before .before .before .before .before .before .list-item .ensures .same) (lets _ (c .before .before .before .before .before .before .before .before .before .before .before .before .before .before .list-item2 .ensures .same) (lets _ (c .before .before .before .before .before .before .before .before .before .before .before .before .before .member-of .ensures) (lets _ (c .before .before .before .before .before .before .before .before .before .before .before .before .type-code .ensures) (goes _ (c .before .before .before .before .before .before .before .before .expr .ensures .same) (c .before .before .before .before .before .before .o .given .1) (lets _ (c .before .either .ensures) (c .fields-from .ensures .same))))))))
+  returns-3 c = fields-go (c .before .before .before .before .before .before .before .before .before .before .before .before .before .before .before .before .before .before .pre .1 .1) _ _ _ _ _ _ (c .before .before .before .before .before .before .before .before .before .before .before .before .before .before .before .before .before .before .pre .1 .0 .1) (c .before .before .before .before .before .before .before .before .before .before .before .before .before .before .before .before .if1 .left) (c .before .before .before .before .before .before .before .before .before .before .before .before .before .before .before .list-item .ensures .same) (c .before .before .before .before .before .before .before .before .before .before .before .before .before .before .list-item2 .ensures .same) (c .before .before .before .before .before .before .before .before .before .before .before .before .before .member-of .ensures) (c .before .before .before .before .before .before .before .before .before .before .before .before .type-code .ensures) (c .before .before .before .before .before .before .before .before .expr .ensures) (c .before .before .before .before .before .before .o .given .1) (c .before .either .ensures) (c .fields-from .ensures)
 
   pub fields-from-closed : {M : Type 1} → fields-from-lts.Closed (claims t) (fields-from-at t) fields-from.Post M
   fields-from-closed =

@@ -11,14 +11,10 @@ use Rattle.expr.proofs.rules.let_stmt.Reads as let-stmt
 use Rattle.expr.proofs.rules.+access_field+arm+arm_body+arms_from+binop+block+cases+expr+fields_from+guarded+last+let_stmt+match_expr+record_fields+return_expr+returned+right+rule+stmt+stmts.Lts-let_stmt as let-stmt-lts
 use Rattle.expr.proofs.rules.+access_field+arm+arm_body+arms_from+binop+block+cases+expr+fields_from+guarded+last+let_stmt+match_expr+record_fields+return_expr+returned+right+rule+stmt+stmts.Proof.Common.{expr-below, let-stmt-at}
 use borrow.Author.Needs.{needs}
-use Rattle.laws.proofs.Choice.{yes, no, lets}
-use Rattle.expr.specs.Rules.{letRule}
-use Rattle.expr.proofs.Steps.{goes, stops, typed-as, typed-none, is}
+use Rattle.expr.proofs.Steps.{is}
 use Rattle.expr.proofs.Coding.{unit-coded}
-use Rattle.expr.proofs.Kept.{after-type}
-use Rattle.expr.proofs.Meets.{meets-let}
-use Rattle.expr.proofs.Keeps.{given-after-type}
-use Rattle.expr.proofs.Given.{given-recorded}
+use Rattle.expr.proofs.Paths.{let-none, let-stops, let-is, let-bound}
+use Rattle.expr.proofs.Given.{given-recorded, given-typed}
 
 abbrev claims : ℕ → let-stmt-lts.Claims
 claims t = (
@@ -43,22 +39,22 @@ module _ (t : ℕ) where
   let-type-requires c κs = ((given-recorded (c .before .before .before .before .pre .1) _ _ (c .before .record-type .ensures) (unit-coded _)) .ready .live, (c .before .before .before .before .pre .1) .marked)
 
   expr-requires : let-stmt-lts.Need-expr-requires (claims t) (let-stmt-at t) let-stmt.Post
-  expr-requires c κs = (search needs, ((given-after-type (given-recorded (c .before .before .before .before .before .before .before .before .before .before .before .pre .1) _ _ (c .before .before .before .before .before .before .before .before .record-type .ensures) (unit-coded _)) (c .before .before .before .before .before .before .let-type .ensures .ran _ _ ((given-recorded (c .before .before .before .before .before .before .before .before .before .before .before .pre .1) _ _ (c .before .before .before .before .before .before .before .before .record-type .ensures) (unit-coded _)) .ready)) (c .before .before .before .before .code .given .1)), (after-type (c .before .before .before .before .before .before .let-type .ensures .ran _ _ ((given-recorded (c .before .before .before .before .before .before .before .before .before .before .before .pre .1) _ _ (c .before .before .before .before .before .before .before .before .record-type .ensures) (unit-coded _)) .ready)) (c .before .before .before .before .code .given .1) .1 .1)))
+  expr-requires c κs = (search needs, given-typed (given-recorded (c .before .before .before .before .before .before .before .before .before .before .before .pre .1) _ _ (c .before .before .before .before .before .before .before .before .record-type .ensures) (unit-coded _)) (c .before .before .before .before .before .before .let-type .ensures) (c .before .before .before .before .code .given .1))
 
   open-slot-requires : let-stmt-lts.Need-open-slot-requires (claims t) (let-stmt-at t) let-stmt.Post
-  open-slot-requires c κs = (after-type (c .before .before .before .before .before .before .before .before .before .before .before .let-type .ensures .ran _ _ ((given-recorded (c .before .before .before .before .before .before .before .before .before .before .before .before .before .before .before .before .pre .1) _ _ (c .before .before .before .before .before .before .before .before .before .before .before .before .before .record-type .ensures) (unit-coded _)) .ready)) (c .before .before .before .before .before .before .before .before .before .code .given .1) .1 .1) .small
+  open-slot-requires c κs = (given-typed (given-recorded (c .before .before .before .before .before .before .before .before .before .before .before .before .before .before .before .before .pre .1) _ _ (c .before .before .before .before .before .before .before .before .before .before .before .before .before .record-type .ensures) (unit-coded _)) (c .before .before .before .before .before .before .before .before .before .before .before .let-type .ensures) (c .before .before .before .before .before .before .before .before .before .code .given .1)) .1 .small
 
   returns : let-stmt-lts.Need-returns (claims t) (let-stmt-at t) let-stmt.Post
-  returns c = meets-let (c .before .before .before .before .before .before .before .before .pre .1) _ _ (c .before .before .before .before .before .before .before .before .args .n) (unfold letRule in lets _ (c .before .before .before .before .before .record-type .ensures) (typed-none _ ((c .before .before .before .let-type .ensures .ran _ _ ((given-recorded (c .before .before .before .before .before .before .before .before .pre .1) _ _ (c .before .before .before .before .before .record-type .ensures) (unit-coded _)) .ready)) .same) (c .before .f .given .1)))
+  returns c = let-none (c .before .before .before .before .before .before .before .before .pre .1) _ _ _ (c .before .before .before .before .before .record-type .ensures) (c .before .before .before .let-type .ensures) (c .before .f .given .1)
 
   returns-2 : let-stmt-lts.Need-returns-2 (claims t) (let-stmt-at t) let-stmt.Post
-  returns-2 c = meets-let (c .before .before .before .before .before .before .before .before .before .before .before .before .before .before .before .pre .1) _ _ (c .before .before .before .before .before .before .before .before .before .before .before .before .before .before .before .args .n) (unfold letRule in lets _ (c .before .before .before .before .before .before .before .before .before .before .before .before .record-type .ensures) (typed-as _ ((c .before .before .before .before .before .before .before .before .before .before .let-type .ensures .ran _ _ ((given-recorded (c .before .before .before .before .before .before .before .before .before .before .before .before .before .before .before .pre .1) _ _ (c .before .before .before .before .before .before .before .before .before .before .before .before .record-type .ensures) (unit-coded _)) .ready)) .same) (c .before .before .before .before .before .before .before .before .code .given .1) (stops _ (c .before .before .before .expr .ensures .same) (c .before .f2 .given .1))))
+  returns-2 c = let-stops (c .before .before .before .before .before .before .before .before .before .before .before .before .before .before .before .pre .1) _ _ _ (c .before .before .before .before .before .before .before .before .before .before .before .before .record-type .ensures) (c .before .before .before .before .before .before .before .before .before .before .let-type .ensures) (c .before .before .before .before .before .before .before .before .code .given .1) (c .before .before .before .expr .ensures) (c .before .f2 .given .1)
 
   returns-3 : let-stmt-lts.Need-returns-3 (claims t) (let-stmt-at t) let-stmt.Post
-  returns-3 c = meets-let (c .before .before .before .before .before .before .before .before .before .before .before .before .before .before .before .before .before .before .before .before .before .pre .1) _ _ (c .before .before .before .before .before .before .before .before .before .before .before .before .before .before .before .before .before .before .before .before .before .args .n) (unfold letRule in lets _ (c .before .before .before .before .before .before .before .before .before .before .before .before .before .before .before .before .before .before .record-type .ensures) (typed-as _ ((c .before .before .before .before .before .before .before .before .before .before .before .before .before .before .before .before .let-type .ensures .ran _ _ ((given-recorded (c .before .before .before .before .before .before .before .before .before .before .before .before .before .before .before .before .before .before .before .before .before .pre .1) _ _ (c .before .before .before .before .before .before .before .before .before .before .before .before .before .before .before .before .before .before .record-type .ensures) (unit-coded _)) .ready)) .same) (c .before .before .before .before .before .before .before .before .before .before .before .before .before .before .code .given .1) (goes _ (c .before .before .before .before .before .before .before .before .before .expr .ensures .same) (c .before .before .before .before .before .before .before .o .given .1) (lets _ (c .before .before .before .before .open-slot .ensures .0) (lets _ (c .before .before .before .before .open-slot .ensures .1) (yes _ _ _ (c .before .before .before .if1 .taken) (lets _ (c .before .seal .ensures) (is (c .done .ensures)))))))))
+  returns-3 c = let-is (c .before .before .before .before .before .before .before .before .before .before .before .before .before .before .before .before .before .before .before .before .before .pre .1) _ _ _ (c .before .before .before .before .before .before .before .before .before .before .before .before .before .before .before .before .before .before .record-type .ensures) (c .before .before .before .before .before .before .before .before .before .before .before .before .before .before .before .before .let-type .ensures) (c .before .before .before .before .before .before .before .before .before .before .before .before .before .before .code .given .1) (c .before .before .before .before .before .before .before .before .before .expr .ensures) (c .before .before .before .before .before .before .before .o .given .1) (c .before .before .before .before .open-slot .ensures) (c .before .before .before .if1 .taken) (c .before .seal .ensures) (c .done .ensures)
 
   returns-4 : let-stmt-lts.Need-returns-4 (claims t) (let-stmt-at t) let-stmt.Post
-  returns-4 c = meets-let (c .before .before .before .before .before .before .before .before .before .before .before .before .before .before .before .before .before .before .before .pre .1) _ _ (c .before .before .before .before .before .before .before .before .before .before .before .before .before .before .before .before .before .before .before .args .n) (unfold letRule in lets _ (c .before .before .before .before .before .before .before .before .before .before .before .before .before .before .before .before .record-type .ensures) (typed-as _ ((c .before .before .before .before .before .before .before .before .before .before .before .before .before .before .let-type .ensures .ran _ _ ((given-recorded (c .before .before .before .before .before .before .before .before .before .before .before .before .before .before .before .before .before .before .before .pre .1) _ _ (c .before .before .before .before .before .before .before .before .before .before .before .before .before .before .before .before .record-type .ensures) (unit-coded _)) .ready)) .same) (c .before .before .before .before .before .before .before .before .before .before .before .before .code .given .1) (goes _ (c .before .before .before .before .before .before .before .expr .ensures .same) (c .before .before .before .before .before .o .given .1) (lets _ (c .before .before .open-slot .ensures .0) (lets _ (c .before .before .open-slot .ensures .1) (no _ _ _ (c .before .if1 .left) (is (c .refuse .ensures))))))))
+  returns-4 c = let-bound (c .before .before .before .before .before .before .before .before .before .before .before .before .before .before .before .before .before .before .before .pre .1) _ _ _ (c .before .before .before .before .before .before .before .before .before .before .before .before .before .before .before .before .record-type .ensures) (c .before .before .before .before .before .before .before .before .before .before .before .before .before .before .let-type .ensures) (c .before .before .before .before .before .before .before .before .before .before .before .before .code .given .1) (c .before .before .before .before .before .before .before .expr .ensures) (c .before .before .before .before .before .o .given .1) (c .before .before .open-slot .ensures) (c .before .if1 .left) (is (c .refuse .ensures))
 
   pub let-stmt-closed : {M : Type 1} → let-stmt-lts.Closed (claims t) (let-stmt-at t) let-stmt.Post M
   let-stmt-closed =

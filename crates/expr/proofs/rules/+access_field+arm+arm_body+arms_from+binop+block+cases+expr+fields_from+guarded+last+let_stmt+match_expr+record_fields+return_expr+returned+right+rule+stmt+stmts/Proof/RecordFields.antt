@@ -4,7 +4,7 @@ use Rattle.expr.proofs.answer.done.Reads as done-reads
 use Rattle.expr.proofs.answer.refuse.Reads as refuse-reads
 use Rattle.expr.proofs.types.definition_code.Reads as definition-code-reads
 use Rattle.expr.proofs.types.meet.Reads as meet-reads
-use Rattle.members.proofs.record_fault.Reads as record-fault-reads
+use Rattle.records.proofs.record_fault.Reads as record-fault-reads
 use Rattle.pack.proofs.list_len.Reads as list-len-reads
 use Rattle.pack.proofs.definition_row.Reads as definition-row-reads
 use Rattle.expr.proofs.rules.fields_from.Reads as fields-from
@@ -12,13 +12,10 @@ use Rattle.expr.proofs.rules.record_fields.Reads as record-fields
 use Rattle.expr.proofs.rules.+access_field+arm+arm_body+arms_from+binop+block+cases+expr+fields_from+guarded+last+let_stmt+match_expr+record_fields+return_expr+returned+right+rule+stmt+stmts.Lts-record_fields as record-fields-lts
 use Rattle.expr.proofs.rules.+access_field+arm+arm_body+arms_from+binop+block+cases+expr+fields_from+guarded+last+let_stmt+match_expr+record_fields+return_expr+returned+right+rule+stmt+stmts.Proof.Common.{fields-from-below, record-fields-at}
 use borrow.Author.Needs.{needs}
-use borrow.Author.Tests.{eq-eqb, ne-eqb}
-use Rattle.laws.proofs.Choice.{yes, no, lets}
-use Rattle.expr.specs.Rules.{recordRule}
-use Rattle.expr.proofs.Steps.{goes, stops, is}
+use Rattle.expr.proofs.Steps.{is}
 use Rattle.expr.proofs.Coding.{definition-coded}
 use Rattle.expr.proofs.Kept.{after, coded-more}
-use Rattle.expr.proofs.Meets.{meets-record}
+use Rattle.expr.proofs.Paths.{record-refuses, record-stops, record-meet-stops, record-is}
 use Rattle.expr.proofs.Keeps.{given-after}
 use Rattle.expr.proofs.Given.{fielded-from}
 
@@ -50,16 +47,16 @@ module _ (t : ℕ) where
   meet-requires c κs = ((given-after (c .before .before .before .before .before .before .before .before .before .before .before .before .before .before .before .pre .1 .0) (c .before .before .before .before .before .fields-from .ensures) (c .before .before .before .o .given .1)) .ready .live, (coded-more (after (c .before .before .before .before .before .fields-from .ensures) (c .before .before .before .o .given .1) .0) (c .before .before .before .before .before .before .before .before .before .before .before .before .before .before .before .pre .1 .1), rw (c .definition-code .ensures) (definition-coded _ _)))
 
   returns : record-fields-lts.Need-returns (claims t) (record-fields-at t) record-fields.Post
-  returns c = meets-record (c .before .before .before .before .before .before .before .before .before .before .before .before .before .pre .1 .0) _ (c .before .before .before .before .before .before .before .before .before .before .before .before .before .pre .1 .1) _ (c .before .before .before .before .before .before .before .before .before .before .before .before .before .args .n) (unfold recordRule in lets _ (c .before .before .before .before .before .before .before .before .before .before .before .record-fault .ensures) (yes _ _ _ (eq-eqb _ _ (c .before .before .before .before .before .before .before .before .before .if1 .taken)) (lets _ (c .before .before .before .before .before .before .before .before .definition-row .ensures) (lets _ (c .before .before .before .before .before .before .before .list-len .ensures .same) (stops _ (c .before .before .before .fields-from .ensures .same) (c .before .f .given .1))))))
+  returns c = record-stops (c .before .before .before .before .before .before .before .before .before .before .before .before .before .pre .1 .0) (c .before .before .before .before .before .before .before .before .before .before .before .before .before .pre .1 .1) _ _ _ (c .before .before .before .before .before .before .before .before .before .before .before .record-fault .ensures) (c .before .before .before .before .before .before .before .before .before .if1 .taken) (c .before .before .before .before .before .before .before .before .definition-row .ensures) (c .before .before .before .before .before .before .before .list-len .ensures .same) (c .before .before .before .fields-from .ensures) (c .before .f .given .1)
 
   returns-2 : record-fields-lts.Need-returns-2 (claims t) (record-fields-at t) record-fields.Post
-  returns-2 c = meets-record (c .before .before .before .before .before .before .before .before .before .before .before .before .before .before .before .before .before .before .before .pre .1 .0) _ (c .before .before .before .before .before .before .before .before .before .before .before .before .before .before .before .before .before .before .before .pre .1 .1) _ (c .before .before .before .before .before .before .before .before .before .before .before .before .before .before .before .before .before .before .before .args .n) (unfold recordRule in lets _ (c .before .before .before .before .before .before .before .before .before .before .before .before .before .before .before .before .before .record-fault .ensures) (yes _ _ _ (eq-eqb _ _ (c .before .before .before .before .before .before .before .before .before .before .before .before .before .before .before .if1 .taken)) (lets _ (c .before .before .before .before .before .before .before .before .before .before .before .before .before .before .definition-row .ensures) (lets _ (c .before .before .before .before .before .before .before .before .before .before .before .before .before .list-len .ensures .same) (goes _ (c .before .before .before .before .before .before .before .before .before .fields-from .ensures .same) (c .before .before .before .before .before .before .before .o .given .1) (lets _ (c .before .before .before .before .definition-code .ensures) (stops _ ((c .before .before .before .meet .ensures .ran _ _ ((given-after (c .before .before .before .before .before .before .before .before .before .before .before .before .before .before .before .before .before .before .before .pre .1 .0) (c .before .before .before .before .before .before .before .before .before .fields-from .ensures) (c .before .before .before .before .before .before .before .o .given .1)) .ready)) .same) (c .before .f2 .given .1))))))))
+  returns-2 c = record-meet-stops (c .before .before .before .before .before .before .before .before .before .before .before .before .before .before .before .before .before .before .before .pre .1 .0) (c .before .before .before .before .before .before .before .before .before .before .before .before .before .before .before .before .before .before .before .pre .1 .1) _ _ _ (c .before .before .before .before .before .before .before .before .before .before .before .before .before .before .before .before .before .record-fault .ensures) (c .before .before .before .before .before .before .before .before .before .before .before .before .before .before .before .if1 .taken) (c .before .before .before .before .before .before .before .before .before .before .before .before .before .before .definition-row .ensures) (c .before .before .before .before .before .before .before .before .before .before .before .before .before .list-len .ensures .same) (c .before .before .before .before .before .before .before .before .before .fields-from .ensures) (c .before .before .before .before .before .before .before .o .given .1) (c .before .before .before .before .definition-code .ensures) (c .before .before .before .meet .ensures) (c .before .f2 .given .1)
 
   returns-3 : record-fields-lts.Need-returns-3 (claims t) (record-fields-at t) record-fields.Post
-  returns-3 c = meets-record (c .before .before .before .before .before .before .before .before .before .before .before .before .before .before .before .before .before .before .before .before .pre .1 .0) _ (c .before .before .before .before .before .before .before .before .before .before .before .before .before .before .before .before .before .before .before .before .pre .1 .1) _ (c .before .before .before .before .before .before .before .before .before .before .before .before .before .before .before .before .before .before .before .before .args .n) (unfold recordRule in lets _ (c .before .before .before .before .before .before .before .before .before .before .before .before .before .before .before .before .before .before .record-fault .ensures) (yes _ _ _ (eq-eqb _ _ (c .before .before .before .before .before .before .before .before .before .before .before .before .before .before .before .before .if1 .taken)) (lets _ (c .before .before .before .before .before .before .before .before .before .before .before .before .before .before .before .definition-row .ensures) (lets _ (c .before .before .before .before .before .before .before .before .before .before .before .before .before .before .list-len .ensures .same) (goes _ (c .before .before .before .before .before .before .before .before .before .before .fields-from .ensures .same) (c .before .before .before .before .before .before .before .before .o .given .1) (lets _ (c .before .before .before .before .before .definition-code .ensures) (goes _ ((c .before .before .before .before .meet .ensures .ran _ _ ((given-after (c .before .before .before .before .before .before .before .before .before .before .before .before .before .before .before .before .before .before .before .before .pre .1 .0) (c .before .before .before .before .before .before .before .before .before .before .fields-from .ensures) (c .before .before .before .before .before .before .before .before .o .given .1)) .ready)) .same) (c .before .before .u .given .1) (is (c .done .ensures)))))))))
+  returns-3 c = record-is (c .before .before .before .before .before .before .before .before .before .before .before .before .before .before .before .before .before .before .before .before .pre .1 .0) (c .before .before .before .before .before .before .before .before .before .before .before .before .before .before .before .before .before .before .before .before .pre .1 .1) _ _ _ (c .before .before .before .before .before .before .before .before .before .before .before .before .before .before .before .before .before .before .record-fault .ensures) (c .before .before .before .before .before .before .before .before .before .before .before .before .before .before .before .before .if1 .taken) (c .before .before .before .before .before .before .before .before .before .before .before .before .before .before .before .definition-row .ensures) (c .before .before .before .before .before .before .before .before .before .before .before .before .before .before .list-len .ensures .same) (c .before .before .before .before .before .before .before .before .before .before .fields-from .ensures) (c .before .before .before .before .before .before .before .before .o .given .1) (c .before .before .before .before .before .definition-code .ensures) (c .before .before .before .before .meet .ensures) (c .before .before .u .given .1) (c .done .ensures)
 
   returns-4 : record-fields-lts.Need-returns-4 (claims t) (record-fields-at t) record-fields.Post
-  returns-4 c = meets-record (c .before .before .before .before .before .pre .1 .0) _ (c .before .before .before .before .before .pre .1 .1) _ (c .before .before .before .before .before .args .n) (unfold recordRule in lets _ (c .before .before .before .record-fault .ensures) (no _ _ _ (ne-eqb _ _ (c .before .if1 .left)) (is (c .refuse .ensures))))
+  returns-4 c = record-refuses (c .before .before .before .before .before .pre .1 .0) (c .before .before .before .before .before .pre .1 .1) _ _ _ (c .before .before .before .record-fault .ensures) (c .before .if1 .left) (is (c .refuse .ensures))
 
   pub record-fields-closed : {M : Type 1} → record-fields-lts.Closed (claims t) (record-fields-at t) record-fields.Post M
   record-fields-closed =

@@ -12,12 +12,9 @@ use Rattle.expr.proofs.rules.right.Reads as right
 use Rattle.expr.proofs.rules.+access_field+arm+arm_body+arms_from+binop+block+cases+expr+fields_from+guarded+last+let_stmt+match_expr+record_fields+return_expr+returned+right+rule+stmt+stmts.Lts-right as right-lts
 use Rattle.expr.proofs.rules.+access_field+arm+arm_body+arms_from+binop+block+cases+expr+fields_from+guarded+last+let_stmt+match_expr+record_fields+return_expr+returned+right+rule+stmt+stmts.Proof.Common.{expr-below, right-at}
 use borrow.Author.Needs.{needs}
-use borrow.Author.Tests.{eq-eqb, ne-eqb}
-use Rattle.laws.proofs.Choice.{yes, no, lets}
-use Rattle.expr.specs.Rules.{rightRule}
-use Rattle.expr.proofs.Steps.{goes, stops, resolves-to, is}
+use Rattle.expr.proofs.Steps.{is}
 use Rattle.expr.proofs.Kept.{after, coded-more}
-use Rattle.expr.proofs.Meets.{meets-right}
+use Rattle.expr.proofs.Paths.{right-refuses, right-stops, right-last-stops, right-is}
 use Rattle.expr.proofs.Keeps.{given-after}
 use Rattle.expr.proofs.Given.{given-settled, plan-coded}
 
@@ -52,16 +49,16 @@ module _ (t : ℕ) where
   result-last-requires c κs = ((given-after (given-settled (c .before .before .before .before .before .before .before .before .before .before .before .before .before .before .before .pre .1 .0) (c .before .before .before .before .before .before .before .before .before .before .before .before .resolve-type .ensures)) (c .before .before .before .before .expr .ensures) (c .before .before .r .given .1)) .ready .live, (coded-more (after (c .before .before .before .before .expr .ensures) (c .before .before .r .given .1) .0) (c .before .before .before .before .before .before .before .before .before .before .before .before .before .before .before .pre .1 .1 .0), coded-more (after (c .before .before .before .before .expr .ensures) (c .before .before .r .given .1) .0) ((plan-coded _ _ _ _ (c .before .before .before .before .before .before .before .before .before .before .operator-plan .ensures) (c .before .before .before .before .before .before .before .before .if1 .taken) (c .before .before .before .before .before .before .before .before .before .before .before .before .before .before .before .pre .1 .1 .1)) .1)))
 
   returns : right-lts.Need-returns (claims t) (right-at t) right.Post
-  returns c = meets-right (c .before .before .before .before .before .before .before .before .before .before .before .before .before .before .pre .1 .0) _ (c .before .before .before .before .before .before .before .before .before .before .before .before .before .before .pre .1 .1 .0) _ (c .before .before .before .before .before .before .before .before .before .before .before .before .before .before .args .n) (c .before .before .before .before .before .before .before .before .before .before .before .before .before .before .pre .1 .1 .1) _ (unfold rightRule in resolves-to _ (c .before .before .before .before .before .before .before .before .before .before .before .resolve-type .ensures) (lets _ (c .before .before .before .before .before .before .before .before .before .before .is-list .ensures) (lets _ (c .before .before .before .before .before .before .before .before .before .operator-plan .ensures) (yes _ _ _ (eq-eqb _ _ (c .before .before .before .before .before .before .before .if1 .taken)) (stops _ (c .before .before .before .expr .ensures .same) (c .before .f .given .1))))))
+  returns c = right-stops (c .before .before .before .before .before .before .before .before .before .before .before .before .before .before .pre .1 .0) (c .before .before .before .before .before .before .before .before .before .before .before .before .before .before .pre .1 .1 .0) _ _ _ (c .before .before .before .before .before .before .before .before .before .before .before .before .before .before .pre .1 .1 .1) _ (c .before .before .before .before .before .before .before .before .before .before .before .resolve-type .ensures) (c .before .before .before .before .before .before .before .before .before .before .is-list .ensures) (c .before .before .before .before .before .before .before .before .before .operator-plan .ensures) (c .before .before .before .before .before .before .before .if1 .taken) (c .before .before .before .expr .ensures) (c .before .f .given .1)
 
   returns-2 : right-lts.Need-returns-2 (claims t) (right-at t) right.Post
-  returns-2 c = meets-right (c .before .before .before .before .before .before .before .before .before .before .before .before .before .before .before .before .before .before .before .pre .1 .0) _ (c .before .before .before .before .before .before .before .before .before .before .before .before .before .before .before .before .before .before .before .pre .1 .1 .0) _ (c .before .before .before .before .before .before .before .before .before .before .before .before .before .before .before .before .before .before .before .args .n) (c .before .before .before .before .before .before .before .before .before .before .before .before .before .before .before .before .before .before .before .pre .1 .1 .1) _ (unfold rightRule in resolves-to _ (c .before .before .before .before .before .before .before .before .before .before .before .before .before .before .before .before .resolve-type .ensures) (lets _ (c .before .before .before .before .before .before .before .before .before .before .before .before .before .before .before .is-list .ensures) (lets _ (c .before .before .before .before .before .before .before .before .before .before .before .before .before .before .operator-plan .ensures) (yes _ _ _ (eq-eqb _ _ (c .before .before .before .before .before .before .before .before .before .before .before .before .if1 .taken)) (goes _ (c .before .before .before .before .before .before .before .before .expr .ensures .same) (c .before .before .before .before .before .before .r .given .1) (stops _ ((c .before .before .before .result-last .ensures .ran _ _ ((given-after (given-settled (c .before .before .before .before .before .before .before .before .before .before .before .before .before .before .before .before .before .before .before .pre .1 .0) (c .before .before .before .before .before .before .before .before .before .before .before .before .before .before .before .before .resolve-type .ensures)) (c .before .before .before .before .before .before .before .before .expr .ensures) (c .before .before .before .before .before .before .r .given .1)) .ready)) .same) (c .before .f2 .given .1)))))))
+  returns-2 c = right-last-stops (c .before .before .before .before .before .before .before .before .before .before .before .before .before .before .before .before .before .before .before .pre .1 .0) (c .before .before .before .before .before .before .before .before .before .before .before .before .before .before .before .before .before .before .before .pre .1 .1 .0) _ _ _ (c .before .before .before .before .before .before .before .before .before .before .before .before .before .before .before .before .before .before .before .pre .1 .1 .1) _ (c .before .before .before .before .before .before .before .before .before .before .before .before .before .before .before .before .resolve-type .ensures) (c .before .before .before .before .before .before .before .before .before .before .before .before .before .before .before .is-list .ensures) (c .before .before .before .before .before .before .before .before .before .before .before .before .before .before .operator-plan .ensures) (c .before .before .before .before .before .before .before .before .before .before .before .before .if1 .taken) (c .before .before .before .before .before .before .before .before .expr .ensures) (c .before .before .before .before .before .before .r .given .1) (c .before .before .before .result-last .ensures) (c .before .f2 .given .1)
 
   returns-3 : right-lts.Need-returns-3 (claims t) (right-at t) right.Post
-  returns-3 c = meets-right (c .before .before .before .before .before .before .before .before .before .before .before .before .before .before .before .before .before .before .before .before .before .pre .1 .0) _ (c .before .before .before .before .before .before .before .before .before .before .before .before .before .before .before .before .before .before .before .before .before .pre .1 .1 .0) _ (c .before .before .before .before .before .before .before .before .before .before .before .before .before .before .before .before .before .before .before .before .before .args .n) (c .before .before .before .before .before .before .before .before .before .before .before .before .before .before .before .before .before .before .before .before .before .pre .1 .1 .1) _ (unfold rightRule in resolves-to _ (c .before .before .before .before .before .before .before .before .before .before .before .before .before .before .before .before .before .before .resolve-type .ensures) (lets _ (c .before .before .before .before .before .before .before .before .before .before .before .before .before .before .before .before .before .is-list .ensures) (lets _ (c .before .before .before .before .before .before .before .before .before .before .before .before .before .before .before .before .operator-plan .ensures) (yes _ _ _ (eq-eqb _ _ (c .before .before .before .before .before .before .before .before .before .before .before .before .before .before .if1 .taken)) (goes _ (c .before .before .before .before .before .before .before .before .before .before .expr .ensures .same) (c .before .before .before .before .before .before .before .before .r .given .1) (goes _ ((c .before .before .before .before .before .result-last .ensures .ran _ _ ((given-after (given-settled (c .before .before .before .before .before .before .before .before .before .before .before .before .before .before .before .before .before .before .before .before .before .pre .1 .0) (c .before .before .before .before .before .before .before .before .before .before .before .before .before .before .before .before .before .before .resolve-type .ensures)) (c .before .before .before .before .before .before .before .before .before .before .expr .ensures) (c .before .before .before .before .before .before .before .before .r .given .1)) .ready)) .same) (c .before .before .before .u .given .1) (lets _ (c .before .either .ensures) (is (c .done .ensures)))))))))
+  returns-3 c = right-is (c .before .before .before .before .before .before .before .before .before .before .before .before .before .before .before .before .before .before .before .before .before .pre .1 .0) (c .before .before .before .before .before .before .before .before .before .before .before .before .before .before .before .before .before .before .before .before .before .pre .1 .1 .0) _ _ _ (c .before .before .before .before .before .before .before .before .before .before .before .before .before .before .before .before .before .before .before .before .before .pre .1 .1 .1) _ (c .before .before .before .before .before .before .before .before .before .before .before .before .before .before .before .before .before .before .resolve-type .ensures) (c .before .before .before .before .before .before .before .before .before .before .before .before .before .before .before .before .before .is-list .ensures) (c .before .before .before .before .before .before .before .before .before .before .before .before .before .before .before .before .operator-plan .ensures) (c .before .before .before .before .before .before .before .before .before .before .before .before .before .before .if1 .taken) (c .before .before .before .before .before .before .before .before .before .before .expr .ensures) (c .before .before .before .before .before .before .before .before .r .given .1) (c .before .before .before .before .before .result-last .ensures) (c .before .before .before .u .given .1) (c .before .either .ensures) (c .done .ensures)
 
   returns-4 : right-lts.Need-returns-4 (claims t) (right-at t) right.Post
-  returns-4 c = meets-right (c .before .before .before .before .before .before .before .before .pre .1 .0) _ (c .before .before .before .before .before .before .before .before .pre .1 .1 .0) _ (c .before .before .before .before .before .before .before .before .args .n) (c .before .before .before .before .before .before .before .before .pre .1 .1 .1) _ (unfold rightRule in resolves-to _ (c .before .before .before .before .before .resolve-type .ensures) (lets _ (c .before .before .before .before .is-list .ensures) (lets _ (c .before .before .before .operator-plan .ensures) (no _ _ _ (ne-eqb _ _ (c .before .if1 .left)) (is (c .refuse .ensures))))))
+  returns-4 c = right-refuses (c .before .before .before .before .before .before .before .before .pre .1 .0) (c .before .before .before .before .before .before .before .before .pre .1 .1 .0) _ _ _ (c .before .before .before .before .before .before .before .before .pre .1 .1 .1) _ (c .before .before .before .before .before .resolve-type .ensures) (c .before .before .before .before .is-list .ensures) (c .before .before .before .operator-plan .ensures) (c .before .if1 .left) (is (c .refuse .ensures))
 
   pub right-closed : {M : Type 1} → right-lts.Closed (claims t) (right-at t) right.Post M
   right-closed =

@@ -8,13 +8,8 @@ use Rattle.expr.proofs.rules.stmt.Reads as stmt
 use Rattle.expr.proofs.rules.+access_field+arm+arm_body+arms_from+binop+block+cases+expr+fields_from+guarded+last+let_stmt+match_expr+record_fields+return_expr+returned+right+rule+stmt+stmts.Lts-stmt as stmt-lts
 use Rattle.expr.proofs.rules.+access_field+arm+arm_body+arms_from+binop+block+cases+expr+fields_from+guarded+last+let_stmt+match_expr+record_fields+return_expr+returned+right+rule+stmt+stmts.Proof.Common.{expr-below, let-stmt-below, stmt-at}
 use borrow.Author.Needs.{needs}
-use borrow.Author.Tests.{eq-eqb, ne-eqb}
-use Rattle.laws.proofs.Choice.{yes, no, lets}
-use Rattle.expr.specs.Rules.{stmtRule}
-use Rattle.expr.proofs.Steps.{typed-as, typed-none}
-use Rattle.expr.proofs.Kept.{after-type}
-use Rattle.expr.proofs.Meets.{meets-stmt}
-use Rattle.expr.proofs.Keeps.{given-after-type}
+use Rattle.expr.proofs.Given.{given-typed}
+use Rattle.expr.proofs.Paths.{stmt-let, stmt-none, stmt-is}
 
 abbrev claims : ℕ → stmt-lts.Claims
 claims t = (
@@ -33,19 +28,19 @@ module _ (t : ℕ) where
   let-stmt-requires c κs = (search needs, (c .before .before .before .before .before .before .before .pre .1))
 
   returns : stmt-lts.Need-returns (claims t) (stmt-at t) stmt.Post
-  returns c = meets-stmt (c .before .before .before .before .before .before .before .before .pre .1) _ _ (unfold stmtRule in lets _ (c .before .before .before .before .before .before .expression-row .ensures) (yes _ _ _ (eq-eqb _ _ (c .before .before .before .before .if1 .taken)) (c .let-stmt .ensures .same)))
+  returns c = stmt-let (c .before .before .before .before .before .before .before .before .pre .1) _ _ (c .before .before .before .before .before .before .expression-row .ensures) (c .before .before .before .before .if1 .taken) (c .let-stmt .ensures)
 
   fresh-type-requires : stmt-lts.Need-fresh-type-requires (claims t) (stmt-at t) stmt.Post
   fresh-type-requires c κs = (c .before .before .before .before .before .pre .1) .ready .live
 
   expr-requires : stmt-lts.Need-expr-requires (claims t) (stmt-at t) stmt.Post
-  expr-requires c κs = (search needs, (given-after-type (c .before .before .before .before .before .before .before .before .before .before .before .before .pre .1) (c .before .before .before .before .before .before .fresh-type .ensures .ran _ _ ((c .before .before .before .before .before .before .before .before .before .before .before .before .pre .1) .ready)) (c .before .before .before .before .code .given .1), after-type (c .before .before .before .before .before .before .fresh-type .ensures .ran _ _ ((c .before .before .before .before .before .before .before .before .before .before .before .before .pre .1) .ready)) (c .before .before .before .before .code .given .1) .1 .1))
+  expr-requires c κs = (search needs, given-typed (c .before .before .before .before .before .before .before .before .before .before .before .before .pre .1) (c .before .before .before .before .before .before .fresh-type .ensures) (c .before .before .before .before .code .given .1))
 
   returns-2 : stmt-lts.Need-returns-2 (claims t) (stmt-at t) stmt.Post
-  returns-2 c = meets-stmt (c .before .before .before .before .before .before .before .before .before .pre .1) _ _ (unfold stmtRule in lets _ (c .before .before .before .before .before .before .before .expression-row .ensures) (no _ _ _ (ne-eqb _ _ (c .before .before .before .before .before .if1 .left)) (typed-none _ ((c .before .before .before .fresh-type .ensures .ran _ _ ((c .before .before .before .before .before .before .before .before .before .pre .1) .ready)) .same) (c .before .f .given .1))))
+  returns-2 c = stmt-none (c .before .before .before .before .before .before .before .before .before .pre .1) _ _ (c .before .before .before .before .before .before .before .expression-row .ensures) (c .before .before .before .before .before .if1 .left) (c .before .before .before .fresh-type .ensures) (c .before .f .given .1)
 
   returns-3 : stmt-lts.Need-returns-3 (claims t) (stmt-at t) stmt.Post
-  returns-3 c = meets-stmt (c .before .before .before .before .before .before .before .before .before .before .before .before .before .pre .1) _ _ (unfold stmtRule in lets _ (c .before .before .before .before .before .before .before .before .before .before .before .expression-row .ensures) (no _ _ _ (ne-eqb _ _ (c .before .before .before .before .before .before .before .before .before .if1 .left)) (typed-as _ ((c .before .before .before .before .before .before .before .fresh-type .ensures .ran _ _ ((c .before .before .before .before .before .before .before .before .before .before .before .before .before .pre .1) .ready)) .same) (c .before .before .before .before .before .code .given .1) (c .expr .ensures .same))))
+  returns-3 c = stmt-is (c .before .before .before .before .before .before .before .before .before .before .before .before .before .pre .1) _ _ (c .before .before .before .before .before .before .before .before .before .before .before .expression-row .ensures) (c .before .before .before .before .before .before .before .before .before .if1 .left) (c .before .before .before .before .before .before .before .fresh-type .ensures) (c .before .before .before .before .before .code .given .1) (c .expr .ensures)
 
   pub stmt-closed : {M : Type 1} → stmt-lts.Closed (claims t) (stmt-at t) stmt.Post M
   stmt-closed =

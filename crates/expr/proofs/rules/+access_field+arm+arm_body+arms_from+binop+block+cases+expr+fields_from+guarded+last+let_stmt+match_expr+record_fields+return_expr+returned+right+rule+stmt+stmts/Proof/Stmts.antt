@@ -8,11 +8,11 @@ use Rattle.expr.proofs.rules.stmts.Reads as stmts
 use Rattle.expr.proofs.rules.+access_field+arm+arm_body+arms_from+binop+block+cases+expr+fields_from+guarded+last+let_stmt+match_expr+record_fields+return_expr+returned+right+rule+stmt+stmts.Lts-stmts as stmts-lts
 use Rattle.expr.proofs.rules.+access_field+arm+arm_body+arms_from+binop+block+cases+expr+fields_from+guarded+last+let_stmt+match_expr+record_fields+return_expr+returned+right+rule+stmt+stmts.Proof.Common.{stmt-below, stmts-at, stmts-below}
 use borrow.Author.Needs.{needs}
-use Rattle.laws.proofs.Choice.{lets}
 use Rattle.expr.specs.Rules.{stmtsRule}
-use Rattle.expr.proofs.Steps.{goes, stops, is}
-use Rattle.expr.proofs.Recursions.{stmts-none, stmts-more}
+use Rattle.expr.proofs.Steps.{is}
+use Rattle.expr.proofs.Recursions.{stmts-none}
 use Rattle.expr.proofs.Meets.{meets-stmts}
+use Rattle.expr.proofs.Paths.{stmts-stop, stmts-go}
 use Rattle.expr.proofs.Keeps.{given-after}
 
 abbrev claims : ℕ → stmts-lts.Claims
@@ -40,10 +40,10 @@ module _ (t : ℕ) where
   stmts-requires c κs = (search needs, (search needs, given-after (c .before .before .before .before .before .before .before .before .before .before .before .before .before .before .pre .1 .1) (c .before .before .before .before .before .before .before .stmt .ensures) (c .before .before .before .before .before .o .given .1)))
 
   returns-2 : stmts-lts.Need-returns-2 (claims t) (stmts-at t) stmts.Post
-  returns-2 c = meets-stmts (c .before .before .before .before .before .before .before .before .before .before .pre .1 .1) _ _ _ _ _ (stmts-more _ _ _ _ _ _ _ _ (c .before .before .before .before .before .before .before .before .if1 .left) (unfold stmtsRule in lets _ (c .before .before .before .before .before .before .before .list-item .ensures .same) (stops _ (c .before .before .before .stmt .ensures .same) (c .before .f .given .1))))
+  returns-2 c = stmts-stop (c .before .before .before .before .before .before .before .before .before .before .pre .1 .1) _ _ _ _ _ (c .before .before .before .before .before .before .before .before .if1 .left) (c .before .before .before .before .before .before .before .list-item .ensures .same) (c .before .before .before .stmt .ensures) (c .before .f .given .1)
 
   returns-3 : stmts-lts.Need-returns-3 (claims t) (stmts-at t) stmts.Post
-  returns-3 c = meets-stmts (c .before .before .before .before .before .before .before .before .before .before .before .before .before .before .before .pre .1 .1) _ _ _ _ _ (stmts-more _ _ _ _ _ _ _ _ (c .before .before .before .before .before .before .before .before .before .before .before .before .before .if1 .left) (unfold stmtsRule in lets _ (c .before .before .before .before .before .before .before .before .before .before .before .before .list-item .ensures .same) (goes _ (c .before .before .before .before .before .before .before .before .stmt .ensures .same) (c .before .before .before .before .before .before .o .given .1) (lets _ (c .before .either .ensures) (c .stmts .ensures .same)))))
+  returns-3 c = stmts-go (c .before .before .before .before .before .before .before .before .before .before .before .before .before .before .before .pre .1 .1) _ _ _ _ _ (c .before .before .before .before .before .before .before .before .before .before .before .before .before .if1 .left) (c .before .before .before .before .before .before .before .before .before .before .before .before .list-item .ensures .same) (c .before .before .before .before .before .before .before .before .stmt .ensures) (c .before .before .before .before .before .before .o .given .1) (c .before .either .ensures) (c .stmts .ensures)
 
   pub stmts-closed : {M : Type 1} → stmts-lts.Closed (claims t) (stmts-at t) stmts.Post M
   stmts-closed =

@@ -1,7 +1,7 @@
 -- The answers of `determine_uses_context`.
 use Prim.Native.Nat.{ℕ}
+use Rattle.tarjan.proofs.list_of.Reads as list-of-reads
 use Rattle.value_cycle.proofs.values.kind_of.Reads as kind-of-reads
-use Rattle.value_cycle.proofs.values.list_of.Reads as list-of-reads
 use Rattle.value_cycle.proofs.context.any_uses_context.Reads as any-uses-context
 use Rattle.value_cycle.proofs.context.determine_uses_context.Reads as determine-uses-context
 use Rattle.value_cycle.proofs.context.+any_uses_context+determine_uses_context.Lts-determine_uses_context as determine-uses-context-lts
@@ -9,8 +9,8 @@ use Rattle.value_cycle.proofs.context.+any_uses_context+determine_uses_
 use borrow.Author.Needs.{needs}
 use native.Mathlib.Omega.{arith}
 use mathlib.Core.Path.{sym, _∙_}
+use Rattle.tarjan.proofs.Leaves.{refs-values}
 use Rattle.value_cycle.proofs.Contexts.{Marking, seen, is-context, entered, less, marked-sized}
-use Rattle.value_cycle.proofs.Leaves.{refs-values}
 
 abbrev claims : ℕ → determine-uses-context-lts.Claims
 claims t = (

@@ -1,0 +1,4 @@
+pub mod RunLaws
+pub mod PeakLaws
+pub mod ListLaws
+pub mod NameLaws

@@ -1,0 +1,5 @@
+pub mod Limits
+pub mod Runs
+pub mod Lists
+pub mod Names
+pub mod Peaks

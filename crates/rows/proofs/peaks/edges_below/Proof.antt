@@ -1,6 +1,0 @@
-use borrow.Author.Needs.{needs}
-use Rattle.rows.proofs.peaks.edges_below.Statement.{statement}
-use Rattle.rows.proofs.peaks.edges_below.Tie as tie
-
-pub edges-below-spec : {M : Type 1} → statement M
-edges-below-spec = tie.close (tie.spec (λ c. search needs) (λ c. search needs) (λ c. search needs) (λ c. search needs) (λ c. search needs) (λ c. search needs) (λ c κs. search needs) (λ c κs. search needs) (λ c κs. search needs) (λ c. cc))

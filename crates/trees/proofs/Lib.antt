@@ -1,0 +1,4 @@
+pub mod NoteLaws
+pub mod HopLaws
+pub mod TreeLaws
+pub mod StepLaws

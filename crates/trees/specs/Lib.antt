@@ -1,0 +1,4 @@
+pub mod Nodes
+pub mod Notes
+pub mod Hops
+pub mod Trees
