@@ -229,6 +229,7 @@ pub fn hostile() -> Vec<(&'static str, Vec<u8>)> {
     all.push(("a match of 1,300 arms on 1,300 variants", model::exhaustive::wide_match(1300, 1300).bytes()));
     all.push(("a record of 2,000 fields, given backward", model::exhaustive::wide_record(2000, 2000).bytes()));
     all.push(("1,020 times the last of 3,570 fields", model::exhaustive::many_accesses(3570, 1020).bytes()));
+    all.push(("1,984 times the last of 4,050 fields", model::exhaustive::nested_accesses(4050, 62, 32).bytes()));
     all.push(("670 matches of `_` on 2,000 variants", model::exhaustive::many_matches(2000, 670, 0).bytes()));
     all.push((
         "a match of 1,000 arms of the last of 2,040 variants",

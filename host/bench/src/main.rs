@@ -1,6 +1,7 @@
 //! Times in one run, as ratios, and single cases for counting instructions.
 //!
 //!     bench times          the tables of docs/PERFORMANCE.md
+//!     bench rows GROUP     one process's figures for a table
 //!     bench cases          the cases to count, a line each with tabs between: the function, and the parts of CASE
 //!     bench one CASE       runs one case once
 //!     bench write FOLDER   writes the packs of the cases as files
@@ -144,55 +145,137 @@ pub fn bench_ena_cells(joins: &[(usize, usize)], finds: &[usize]) {
 
 // Times.
 
-/// The least time of many runs, in microseconds.
-fn least(mut run: impl FnMut()) -> f64 {
+/// How many processes measure, each with the programs' memory laid out anew.
+const PROCESSES: usize = 15;
+
+/// How many times the programs of one row take turns in one process, at most, and where one turn is long, at least.
+const TURNS: usize = 61;
+const FEW_TURNS: usize = 5;
+
+/// After how many seconds a row has had turns enough.
+const ROW: f64 = 0.5;
+
+/// How long one program runs at its turn, at least, in microseconds.
+const TURN: f64 = 400.0;
+
+fn median(mut of: Vec<f64>) -> f64 {
+    of.sort_by(f64::total_cmp);
+    of[of.len() / 2]
+}
+
+/// The microseconds of one run, from as many as a turn takes.
+fn turn(run: &mut dyn FnMut()) -> f64 {
     let begun = Instant::now();
-    let mut least = f64::MAX;
     let mut runs = 0;
-    while runs < 20 || (begun.elapsed().as_millis() < 150 && runs < 20_000) {
-        let at = Instant::now();
+    loop {
         run();
-        least = least.min(at.elapsed().as_secs_f64() * 1e6);
         runs += 1;
+        let took = begun.elapsed().as_secs_f64() * 1e6;
+        if took >= TURN {
+            return took / f64::from(runs);
+        }
     }
-    least
+}
+
+/// One row: the microseconds of the first program, and how many times each other program's time that is. They take
+/// turns, so that what slows the machine for a while slows all; each figure is the median over the turns.
+fn row(name: &str, programs: &mut [&mut dyn FnMut()]) {
+    let begun = Instant::now();
+    let mut turns: Vec<Vec<f64>> = Vec::new();
+    while turns.len() < FEW_TURNS || (turns.len() < TURNS && begun.elapsed().as_secs_f64() < ROW) {
+        turns.push(programs.iter_mut().map(|p| turn(*p)).collect());
+    }
+    print!("{name}\t{}", median(turns.iter().map(|t| t[0]).collect()));
+    for other in 1..programs.len() {
+        print!("\t{}", median(turns.iter().map(|t| t[0] / t[other]).collect()));
+    }
+    println!();
+}
+
+fn rows(group: &str) {
+    match group {
+        "order" => {
+            for (name, references) in inputs::graphs() {
+                let g = graph_inputs(&references);
+                let mut area = vec![0; 2 * references.len()];
+                row(
+                    name,
+                    &mut [&mut || our_order(&g.pack, &mut area), &mut || bench_text_order(&g.map), &mut || {
+                        bench_petgraph_order(&g.graph)
+                    }],
+                );
+            }
+        }
+        "cells" => {
+            for (name, joins, finds) in inputs::scripts() {
+                let script = script_of(&joins, &finds);
+                let mut answers = vec![0; script.len() / 3 * 2];
+                row(
+                    name,
+                    &mut [
+                        &mut || our_cells(&script, &mut answers),
+                        &mut || bench_text_cells(&joins, &finds),
+                        &mut || bench_ena_cells(&joins, &finds),
+                    ],
+                );
+            }
+        }
+        _ => {
+            let pack = inputs::full();
+            let mut area = vec![0; 4 * 4096];
+            row("types", &mut [&mut || rulepack::check_types(black_box(&pack)).expect("accepted")]);
+            row(
+                "one root of 16 nodes",
+                &mut [&mut || rulepack::check_root(black_box(&pack), 0, &mut area).expect("accepted")],
+            );
+            row("order", &mut [&mut || rulepack::order(black_box(&pack), &mut area).expect("accepted")]);
+        }
+    }
+}
+
+/// A ratio to two figures, which is what two runs of the command agree on.
+fn two_figures(x: f64) -> String {
+    if x < 1.0 {
+        format!("{x:.2}")
+    } else if x < 10.0 {
+        format!("{x:.1}")
+    } else {
+        format!("{x:.0}")
+    }
+}
+
+/// One table: the median of each figure over the processes.
+fn table(group: &str, head: &str) {
+    let program = std::env::current_exe().expect("this program");
+    let mut names = Vec::new();
+    let mut figures: Vec<Vec<Vec<f64>>> = Vec::new();
+    for process in 0..PROCESSES {
+        let said = std::process::Command::new(&program).args(["rows", group]).output().expect("this program runs");
+        for (i, line) in String::from_utf8(said.stdout).expect("text").lines().enumerate() {
+            let mut words = line.split('\t');
+            let name = words.next().expect("a name").to_string();
+            if process == 0 {
+                names.push(name);
+                figures.push(Vec::new());
+            }
+            figures[i].push(words.map(|w| w.parse().expect("a number")).collect());
+        }
+    }
+    println!("{head}");
+    println!("|---|{}", "---|".repeat(figures[0][0].len()));
+    for (name, of) in names.iter().zip(&figures) {
+        let one = |column: usize| median(of.iter().map(|f| f[column]).collect());
+        let ratios: String = (1..of[0].len()).map(|c| format!(" {} |", two_figures(one(c)))).collect();
+        println!("| {name} | {:.0} |{ratios}", one(0));
+    }
 }
 
 fn times() {
-    println!(
-        "| order of 1,024 values | ours µs | the Rust's `tarjan` µs | petgraph µs | ours / Rust | ours / petgraph |"
-    );
-    println!("|---|---|---|---|---|---|");
-    for (name, references) in inputs::graphs() {
-        let g = graph_inputs(&references);
-        let mut area = vec![0; 2 * references.len()];
-        let ours = least(|| our_order(&g.pack, &mut area));
-        let text = least(|| bench_text_order(&g.map));
-        let pet = least(|| bench_petgraph_order(&g.graph));
-        println!("| {name} | {ours:.0} | {text:.0} | {pet:.0} | {:.2} | {:.2} |", ours / text, ours / pet);
-    }
+    table("order", "| order of 1,024 values | ours µs | ours / the Rust's `tarjan` | ours / petgraph |");
     println!();
-    println!(
-        "| 2,048 variables made, joined and found | ours µs | the Rust's µs | ena µs | ours / Rust | ours / ena |"
-    );
-    println!("|---|---|---|---|---|---|");
-    for (name, joins, finds) in inputs::scripts() {
-        let script = script_of(&joins, &finds);
-        let mut answers = vec![0; script.len() / 3 * 2];
-        let ours = least(|| our_cells(&script, &mut answers));
-        let text = least(|| bench_text_cells(&joins, &finds));
-        let ena = least(|| bench_ena_cells(&joins, &finds));
-        println!("| {name} | {ours:.0} | {text:.0} | {ena:.0} | {:.2} | {:.2} |", ours / text, ours / ena);
-    }
+    table("cells", "| 2,048 variables made, joined and found | ours µs | ours / the Rust's | ours / ena |");
     println!();
-    println!("| a full accepted pack, 65,536 bytes | µs |");
-    println!("|---|---|");
-    let pack = inputs::full();
-    let mut area = vec![0; 4 * 4096];
-    println!("| types | {:.0} |", least(|| rulepack::check_types(black_box(&pack)).expect("accepted")));
-    let root = least(|| rulepack::check_root(black_box(&pack), 0, &mut area).expect("accepted"));
-    println!("| one root of 16 nodes | {root:.0} |");
-    println!("| order | {:.0} |", least(|| rulepack::order(black_box(&pack), &mut area).expect("accepted")));
+    table("full", "| a full accepted pack, 65,536 bytes | µs |");
 }
 
 /// The cases whose instructions are counted: the function that is counted, and the name.
@@ -267,13 +350,14 @@ fn main() {
     let words: Vec<String> = std::env::args().skip(1).collect();
     match words.iter().map(String::as_str).collect::<Vec<_>>()[..] {
         ["times"] => times(),
+        ["rows", group] => rows(group),
         ["cases"] => cases().iter().for_each(|(function, name)| println!("{function}\t{}", name.replace('/', "\t"))),
         ["one", case] => one(case),
         ["write", folder] => {
             std::fs::write(format!("{folder}/full.rpk"), inputs::full()).expect("a file");
         }
         _ => {
-            eprintln!("bench times | cases | one CASE | write FOLDER");
+            eprintln!("bench times | rows GROUP | cases | one CASE | write FOLDER");
             std::process::exit(2);
         }
     }

@@ -219,6 +219,7 @@ pub fn limits(plan: &Plan) -> bool {
     exhaustive::limits(&mut ask);
     exhaustive::lets(&mut ask);
     ask(exhaustive::many_accesses(100, 100).bytes());
+    ask(exhaustive::nested_accesses(100, 62, 20).bytes());
     ask(exhaustive::many_matches(60, 20, 3).bytes());
     tally.close()
 }

@@ -226,6 +226,26 @@ pub fn many_accesses(fields: usize, times: usize) -> Maker {
     maker
 }
 
+/// A definition of `fields` whose fields are all of its own type; as statements, `times` times the last field of the last
+/// field and so on, `deep` times.
+pub fn nested_accesses(fields: usize, deep: usize, times: usize) -> Maker {
+    let mut maker = Maker::new();
+    let none = maker.singles(&[]);
+    let unit = maker.type_row(1, 0, 0);
+    let t = maker.type_row(4, 0, none);
+    let list = maker.pairs(&(0..fields).map(|f| (f, t)).collect::<Vec<_>>());
+    maker.definition(1, 0, list);
+    let statements: Vec<usize> = (0..times)
+        .map(|_| {
+            let slot = maker.slot(0);
+            (0..deep).fold(slot, |of, _| maker.field(of, fields - 1))
+        })
+        .collect();
+    let body = maker.block(&statements, None);
+    maker.root(body, unit, &[(0, t)]);
+    maker
+}
+
 /// `times` times a match on an enum of `variants`, as statements, each with `arms` arms of the last variant and `_`.
 pub fn many_matches(variants: usize, times: usize, arms: usize) -> Maker {
     let mut maker = Maker::new();
