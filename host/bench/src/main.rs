@@ -178,16 +178,17 @@ fn turn(run: &mut dyn FnMut()) -> f64 {
 }
 
 /// One row: the microseconds of the first program, and how many times each other program's time that is. They take
-/// turns, so that what slows the machine for a while slows all; each figure is the median over the turns.
+/// turns, so that what slows the machine for a while slows all; of each program the fastest turn counts.
 fn row(name: &str, programs: &mut [&mut dyn FnMut()]) {
     let begun = Instant::now();
     let mut turns: Vec<Vec<f64>> = Vec::new();
     while turns.len() < FEW_TURNS || (turns.len() < TURNS && begun.elapsed().as_secs_f64() < ROW) {
         turns.push(programs.iter_mut().map(|p| turn(*p)).collect());
     }
-    print!("{name}\t{}", median(turns.iter().map(|t| t[0]).collect()));
+    let least = |program: usize| turns.iter().map(|t| t[program]).fold(f64::MAX, f64::min);
+    print!("{name}\t{}", least(0));
     for other in 1..programs.len() {
-        print!("\t{}", median(turns.iter().map(|t| t[0] / t[other]).collect()));
+        print!("\t{}", least(0) / least(other));
     }
     println!();
 }
