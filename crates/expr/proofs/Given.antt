@@ -5,12 +5,12 @@
 --     given-inner, own-inner, coded-inner     an expression was checked against it
 --     given-accessed   the type of a field
 --     plan-coded       the types of an operator's plan
---     fielded-from, field-coded, fields-left    the types of the fields given to a record
+--     fielded-from, field-coded    the types of the fields given to a record
 -- Assumes nothing.
 use mathlib.Core.Path.{_≡_, refl, sym, subst, _∙_}
 use mathlib.Core.List.{List, []}
 use mathlib.Core.Bool.{Bool}
-use Prim.Native.Nat.{ℕ, _+_, _-_, _*_}
+use Prim.Native.Nat.{ℕ, _*_, _<_}
 use native.Mathlib.Omega.{arith}
 use lib.Dec.{ltb}
 use Rattle.laws.specs.Bounded.{get}
@@ -111,10 +111,7 @@ pub fielded-from : {e : Env} (a b : ℕ) {left : ℕ} {fault : Fault} {row : Def
     → row ≡ definitionRow (e .p) (e .c) a → left ≡ listLen (e .p) (e .c) b → Fielded e (row .list) b left 0
 fielded-from {e = e} a b m f z r l = rw (r, l) (fielded e a b m (rw f at z))
 
-module _ {e : Env} {list fields k : ℕ} where
-  pub fields-left : {left : ℕ} → Fielded e list fields left k → (left ≡ 0 → ⊥) → Fielded e list fields (left - 1) (k + 1)
-  fields-left {left = left} f n = record { each = λ j a l. f .each j (omega arith) (omega (arith, n)) }
-
-  pub field-coded : {left vars name t x : ℕ} → Fielded e list fields left k → (left ≡ 0 → ⊥) → name ≡ listItem (e .p) (e .c) fields (2 * k) → t ≡ memberOf (e .p) (e .c) list name
-      → x ≡ codeIn (e .p) (e .c) (e .same) t → Coded vars x
-  field-coded {vars = vars} f n a b c = rw (c, b, a) (f .each k (omega arith) (omega (arith, n)) vars)
+-- one of them, against which its value is checked
+pub field-coded : {e : Env} {list fields n k vars name t x : ℕ} → Fielded e list fields n 0 → k < n → name ≡ listItem (e .p) (e .c) fields (2 * k) → t ≡ memberOf (e .p) (e .c) list name
+    → x ≡ codeIn (e .p) (e .c) (e .same) t → Coded vars x
+field-coded {k = k} {vars = vars} f h a b c = rw (c, b, a) (f .each k (omega arith) (omega arith) vars)

@@ -9,6 +9,7 @@ pub mod Recursions
 pub mod Given
 pub mod Meets
 pub mod Paths
+pub mod Lists
 pub mod Roots
 pub mod Numbers
 pub mod Walk

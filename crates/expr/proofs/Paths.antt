@@ -1,16 +1,16 @@
 -- The path to each return of a rule, said of variables: the contract from what the calls ensured and the tests told, in the order of the
 -- code. A function's proof applies these, so that no step of a path meets the terms of its code.
 --     match-.., field-..          which begin alike (`inner`): a fresh type, and the inner node against it
---     body-.., arm-.., arms-.., cases-..     a match's arms
---     block-.., stmts-.., stmt-.., let-..    a block's statements
+--     body-.., arm-.., cases-..   a match's arms
+--     block-.., stmt-.., let-..   a block's statements
 --     operator-.., right-..       an operator and its right side
---     record-.., fields-..        a record and its fields
+--     record-..                   a record
 --     expr-..                     a node of any kind
--- In each, `-stops` is a refusal of the part checked last, and `-is` or `-go` the way through.
+-- In each, `-stops` is a refusal of the part checked last, and `-is` the way through. The walks over lists have theirs in Lists.
 -- Assumes nothing.
 use mathlib.Core.Path.{_≡_, refl, sym, _∙_}
 use mathlib.Core.List.{List}
-use mathlib.Core.Bool.{Bool, true, false, _&&_, _||_}
+use mathlib.Core.Bool.{Bool, true, false, _||_}
 use Prim.Native.Nat.{ℕ, _+_, _-_, _*_}
 use borrow.Author.Tests.{eq-eqb, ne-eqb}
 use Rattle.laws.proofs.Choice.{yes, no, lets}
@@ -23,9 +23,7 @@ use Rattle.unionfind.specs.declared.codes.Kind.the-variants.{Var}
 use Rattle.unify.specs.Unify.{Resolves}
 use Rattle.operators.specs.Operators.{operatorPlan}
 use Rattle.operators.specs.declared.plan.OperatorPlan.{OperatorPlan}
-use Rattle.structure.specs.Types.{codeIn}
 use Rattle.members.specs.Types.{isList}
-use Rattle.members.specs.Lookup.{memberOf}
 use Rattle.members.specs.Field.{accessedBy}
 use Rattle.members.specs.declared.answer.Accessed.{Accessed}
 use Rattle.members.specs.declared.answer.Accessed.the-variants as accessed
@@ -35,19 +33,19 @@ use Rattle.records.specs.Record.{recordFault}
 use Rattle.records.specs.declared.answer.Fault.{Fault}
 use Rattle.slots.specs.Slots.{unbound, opened, opening, closeLets}
 use Rattle.expr.specs.State.{Env, State, Ans, st, ran, outcome, refuseWith, refuse, _then_, _gives_, freshType, unifyStep}
-use Rattle.expr.specs.Rules.{letKind, unitCode, definitionCode, recorded, sealed, letType, letRule, stmtRule, stmtsRule, lastRule, lastCode, blockRule, boolFirst, operandType, resultLast, rightRule, operatorRule, guardRule, payloadOpens, payloadCloses, bodyRule, armRule, endsArms, armsRule, casesRule, matchRule, subjectRule, fieldsRule, recordRule, fieldTypeRule, accessedRule, fieldRule, kindRule, nodeRule, exprRule}
-use Rattle.expr.specs.Ready.{Coded, Given, Fielded, Ran, Types, CellsRan, CellsType}
+use Rattle.expr.specs.Rules.{letKind, unitCode, definitionCode, recorded, sealed, letType, letRule, stmtRule, stmtsRule, lastRule, lastCode, blockRule, boolFirst, operandType, resultLast, rightRule, operatorRule, guardRule, payloadOpens, payloadCloses, bodyRule, armRule, armsRule, casesRule, matchRule, subjectRule, fieldsRule, recordRule, fieldTypeRule, accessedRule, fieldRule, kindRule, nodeRule, exprRule}
+use Rattle.expr.specs.Ready.{Coded, Given, Ran, Types, CellsRan, CellsType}
 use Rattle.expr.specs.declared.answer.Outcome.{Outcome}
 use Rattle.expr.specs.declared.answer.Step.{Step}
 use Rattle.expr.specs.declared.answer.Step.the-variants.{Done, Refused}
 use Rattle.expr.specs.declared.answer.Typed.{Typed}
 use Rattle.expr.specs.declared.answer.Typed.the-variants as typed
 use Rattle.expr.proofs.Steps.{goes, stops, typed-as, typed-none, resolves-to, is}
-use Rattle.expr.proofs.Recursions.{stmts-more, arms-more, fields-more, expr-more}
+use Rattle.expr.proofs.Recursions.{expr-more}
 use Rattle.expr.proofs.Coding.{unit-coded}
 use Rattle.expr.proofs.Keeps.{given-after}
 use Rattle.expr.proofs.Given.{given-inner, given-settled, given-recorded}
-use Rattle.expr.proofs.Meets.{meets-match, meets-field, meets-body, meets-arm, meets-arms, meets-cases, meets-block, meets-let, meets-stmt, meets-stmts, meets-right, meets-operator, meets-fields, meets-record, meets-expr}
+use Rattle.expr.proofs.Meets.{meets-match, meets-field, meets-body, meets-arm, meets-cases, meets-block, meets-let, meets-stmt, meets-right, meets-operator, meets-record, meets-expr}
 
 module _ {e : Env} {vars : ℕ} {c s w : List ℕ} (g : Given e vars (st c s w)) {want : ℕ} (k : Coded vars want) (depth : ℕ) where
   -- ---- match and field: a fresh type, and the inner node against it
@@ -246,25 +244,7 @@ module _ {e : Env} {vars : ℕ} {c s w : List ℕ} (g : Given e vars (st c s w))
       unfolding armRule
       arm-is q p = meets-arm g depth k id list arms j (lets _ a (lets _ b (lets _ f (yes _ _ _ (eq-eqb _ _ m) (lets _ o (yes _ _ _ q (p .same)))))))
 
-  -- ---- the arms from one on, and all of them
-
-  module _ (id list arms left j : ℕ) {ended : Bool} (more : left ≡ 0 → ⊥) (d : Bool) where
-    pub arms-ended : ended ≡ true → {body : ℕ} → body ≡ listItem (e .p) (e .c) arms (4 * j + 3) → {z : Step} → ran z c s w ≡ refuse 25 body (st c s w)
-        → Ran vars (armsRule (exprRule depth e) e id list arms left j ended d want vars (st c s w)) z c s w
-    unfolding armsRule
-    arms-ended q b p = meets-arms g depth k id list arms left j _ d (arms-more _ _ _ _ _ _ _ _ _ _ _ _ more (yes _ _ _ q (lets _ b p)))
-
-    module _ (q : ended ≡ false) {r : Step} {c1 s1 w1 : List ℕ} (i : Ran vars (armRule (exprRule depth e) e id list arms j want vars (st c s w)) r c1 s1 w1) where
-      pub arms-stop : {f : Refusal} → r ≡ Refused f → Ran vars (armsRule (exprRule depth e) e id list arms left j ended d want vars (st c s w)) (Refused f) c1 s1 w1
-      unfolding armsRule
-      arms-stop p = meets-arms g depth k id list arms left j _ d (arms-more _ _ _ _ _ _ _ _ _ _ _ _ more (no _ _ _ q (stops _ (i .same) p)))
-
-      pub arms-go : {o : Outcome} → r ≡ Done o → {end : Bool} → end ≡ endsArms (e .p) (e .c) arms j → {b : Bool} → b ≡ (d && o .diverges)
-          → {z : Step} {x y v : List ℕ} → Ran (o .vars) (armsRule (exprRule depth e) e id list arms (left - 1) (j + 1) end b want (o .vars) (st c1 s1 w1)) z x y v
-          → Ran vars (armsRule (exprRule depth e) e id list arms left j ended d want vars (st c s w)) z x y v
-      unfolding armsRule
-      arms-go o end b p =
-          meets-arms g depth k id list arms left j _ d (arms-more _ _ _ _ _ _ _ _ _ _ _ _ more (no _ _ _ q (goes _ (i .same) o (lets _ end (lets _ b (p .same))))))
+  -- ---- the arms of a match
 
   module _ (id list arms : ℕ) {left : ℕ} (a : left ≡ listLen (e .p) (e .c) arms)
       {r : Step} {c1 s1 w1 : List ℕ} (i : Ran vars (armsRule (exprRule depth e) e id list arms left 0 false true want vars (st c s w)) r c1 s1 w1) where
@@ -294,21 +274,9 @@ module _ {e : Env} {vars : ℕ} {c s w : List ℕ} (g : Given e vars (st c s w))
     unfolding exprRule nodeRule
     expr-is o l = meets-expr g depth k id (expr-more _ _ _ _ _ _ more (lets _ a (lets _ b (goes _ (lets _ refl (i .same)) o (lets _ l refl)))))
 
--- ---- statements, a let, and the fields of a record: no type is expected of them
+-- ---- a statement and a let: no type is expected of them
 
 module _ {e : Env} {vars : ℕ} {c s w : List ℕ} (g : Given e vars (st c s w)) (depth : ℕ) where
-  module _ (list left j : ℕ) (d : Bool) (more : left ≡ 0 → ⊥) {id : ℕ} (a : id ≡ listItem (e .p) (e .c) list j)
-      {r : Step} {c1 s1 w1 : List ℕ} (i : Ran vars (stmtRule (exprRule depth e) e id vars (st c s w)) r c1 s1 w1) where
-    pub stmts-stop : {f : Refusal} → r ≡ Refused f → Ran vars (stmtsRule (exprRule depth e) e list left j d vars (st c s w)) (Refused f) c1 s1 w1
-    unfolding stmtsRule
-    stmts-stop p = meets-stmts g depth list left j d (stmts-more _ _ _ _ _ _ _ _ more (lets _ a (stops _ (i .same) p)))
-
-    pub stmts-go : {o : Outcome} → r ≡ Done o → {u : Bool} → u ≡ (d || o .diverges)
-        → {z : Step} {l m n : List ℕ} → Ran (o .vars) (stmtsRule (exprRule depth e) e list (left - 1) (j + 1) u (o .vars) (st c1 s1 w1)) z l m n
-        → Ran vars (stmtsRule (exprRule depth e) e list left j d vars (st c s w)) z l m n
-    unfolding stmtsRule
-    stmts-go o u p = meets-stmts g depth list left j d (stmts-more _ _ _ _ _ _ _ _ more (lets _ a (goes _ (i .same) o (lets _ u (p .same)))))
-
   module _ (id : ℕ) {n : ExpressionRow} (a : n ≡ expressionRow (e .p) (e .c) id) where
     pub stmt-let : n .kind ≡ letKind → {z : Step} {l m v : List ℕ} → Ran vars (letRule (exprRule depth e) e id n vars (st c s w)) z l m v
         → Ran vars (stmtRule (exprRule depth e) e id vars (st c s w)) z l m v
@@ -350,21 +318,3 @@ module _ {e : Env} {vars : ℕ} {c s w : List ℕ} (g : Given e vars (st c s w))
             → Ran vars (letRule (exprRule depth e) e id n vars (st c s w)) z c2 l w2
         unfolding letRule
         let-bound u p = meets-let g depth id n (lets _ a (typed-as _ (let-typed .same) q (goes _ (i .same) d (lets _ (h .0) (lets _ (h .1) (no _ _ _ u p))))))
-
-  module _ (list fields left j : ℕ) (d : Bool) (a : Fielded e list fields left j) (more : left ≡ 0 → ⊥)
-      {name : ℕ} (b : name ≡ listItem (e .p) (e .c) fields (2 * j)) {value : ℕ} (v : value ≡ listItem (e .p) (e .c) fields (2 * j + 1))
-      {t : ℕ} (q : t ≡ memberOf (e .p) (e .c) list name) {x : ℕ} (h : x ≡ codeIn (e .p) (e .c) (e .same) t)
-      {r : Step} {c1 s1 w1 : List ℕ} (i : Ran vars (exprRule depth e value x vars (st c s w)) r c1 s1 w1) where
-    pub fields-stop : {f : Refusal} → r ≡ Refused f → Ran vars (fieldsRule (exprRule depth e) e list fields left j d vars (st c s w)) (Refused f) c1 s1 w1
-    unfolding fieldsRule
-    fields-stop p =
-        meets-fields g depth list fields left j d a
-        (fields-more _ _ _ _ _ _ _ _ _ more (lets _ b (lets _ v (lets _ q (lets _ h (stops _ (i .same) p))))))
-
-    pub fields-go : {o : Outcome} → r ≡ Done o → {u : Bool} → u ≡ (d || o .diverges)
-        → {z : Step} {l m n : List ℕ} → Ran (o .vars) (fieldsRule (exprRule depth e) e list fields (left - 1) (j + 1) u (o .vars) (st c1 s1 w1)) z l m n
-        → Ran vars (fieldsRule (exprRule depth e) e list fields left j d vars (st c s w)) z l m n
-    unfolding fieldsRule
-    fields-go o u p =
-        meets-fields g depth list fields left j d a
-        (fields-more _ _ _ _ _ _ _ _ _ more (lets _ b (lets _ v (lets _ q (lets _ h (goes _ (i .same) o (lets _ u (p .same))))))))

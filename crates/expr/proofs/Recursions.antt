@@ -3,7 +3,7 @@
 use mathlib.Core.Path.{_≡_, refl, sym, ap, _∙_}
 use mathlib.Core.List.{List}
 use mathlib.Core.Bool.{Bool}
-use Prim.Native.Nat.{ℕ, zero, suc, _-_}
+use Prim.Native.Nat.{ℕ, zero, suc, _+_, _-_, _<_, _≤_}
 use native.Mathlib.Omega.{arith}
 use borrow.Author.Tests.{ne-eqb}
 use Rattle.laws.proofs.Choice.{no}
@@ -22,6 +22,13 @@ module _ {A : Type 0} (f : ℕ → A) {z : A} where
   at-more : (n : ℕ) → (n ≡ 0 → ⊥) → z ≡ f (suc (n - 1)) → z ≡ f n
   at-more zero h e = absurd (h refl)
   at-more (suc n) h e = let q : suc n - 1 ≡ n = omega arith in rw q at e
+
+  -- of what is left of n items from the k-th on
+  past-items : (n k : ℕ) → n ≤ k → z ≡ f 0 → z ≡ f (n - k)
+  past-items n k h e = at-none (n - k) (omega arith) e
+
+  at-item : (n k : ℕ) → k < n → z ≡ f (suc (n - (k + 1))) → z ≡ f (n - k)
+  at-item n k h e = let q : suc (n - (k + 1)) ≡ n - k = omega arith in e ∙ ap f q
 
 module _ (notes : List ℕ) (last : ℕ) {z : ℕ} where
   pub last-code-none : last ≡ 0 → z ≡ lastCode notes 0 → z ≡ lastCode notes last
@@ -51,12 +58,12 @@ module _ (p : List ℕ) (c : Counts) (same marks : List ℕ) (id annotation vars
   pub let-type-more : (annotation ≡ 0 → ⊥) → z ≡ letType p c same marks id (suc (annotation - 1)) vars s → z ≡ letType p c same marks id annotation vars s
   let-type-more = at-more (λ n. letType p c same marks id n vars s) annotation
 
-module _ (run : Run) (e : Env) (list left k : ℕ) (d : Bool) (vars : ℕ) (s : State) {z : Ans} where
-  pub stmts-none : left ≡ 0 → z ≡ stmtsRule run e list 0 k d vars s → z ≡ stmtsRule run e list left k d vars s
-  stmts-none = at-none (λ n. stmtsRule run e list n k d vars s) left
+module _ (run : Run) (e : Env) (list n k : ℕ) (d : Bool) (vars : ℕ) (s : State) {z : Ans} where
+  pub stmts-none : n ≤ k → z ≡ stmtsRule run e list 0 k d vars s → z ≡ stmtsRule run e list (n - k) k d vars s
+  stmts-none = past-items (λ m. stmtsRule run e list m k d vars s) n k
 
-  pub stmts-more : (left ≡ 0 → ⊥) → z ≡ stmtsRule run e list (suc (left - 1)) k d vars s → z ≡ stmtsRule run e list left k d vars s
-  stmts-more = at-more (λ n. stmtsRule run e list n k d vars s) left
+  pub stmts-more : k < n → z ≡ stmtsRule run e list (suc (n - (k + 1))) k d vars s → z ≡ stmtsRule run e list (n - k) k d vars s
+  stmts-more = at-item (λ m. stmtsRule run e list m k d vars s) n k
 
 module _ (run : Run) (e : Env) (id last want : ℕ) (d : Bool) (vars : ℕ) (s : State) {z : Ans} where
   pub last-none : last ≡ 0 → z ≡ lastRule run e id 0 want d vars s → z ≡ lastRule run e id last want d vars s
@@ -72,19 +79,19 @@ module _ (run : Run) (guard vars : ℕ) (s : State) {z : Ans} where
   pub guard-more : (guard ≡ 0 → ⊥) → z ≡ guardRule run (suc (guard - 1)) vars s → z ≡ guardRule run guard vars s
   guard-more = at-more (λ n. guardRule run n vars s) guard
 
-module _ (run : Run) (e : Env) (id list arms left k : ℕ) (ended d : Bool) (want vars : ℕ) (s : State) {z : Ans} where
-  pub arms-none : left ≡ 0 → z ≡ armsRule run e id list arms 0 k ended d want vars s → z ≡ armsRule run e id list arms left k ended d want vars s
-  arms-none = at-none (λ n. armsRule run e id list arms n k ended d want vars s) left
+module _ (run : Run) (e : Env) (id list arms n k : ℕ) (ended d : Bool) (want vars : ℕ) (s : State) {z : Ans} where
+  pub arms-none : n ≤ k → z ≡ armsRule run e id list arms 0 k ended d want vars s → z ≡ armsRule run e id list arms (n - k) k ended d want vars s
+  arms-none = past-items (λ m. armsRule run e id list arms m k ended d want vars s) n k
 
-  pub arms-more : (left ≡ 0 → ⊥) → z ≡ armsRule run e id list arms (suc (left - 1)) k ended d want vars s → z ≡ armsRule run e id list arms left k ended d want vars s
-  arms-more = at-more (λ n. armsRule run e id list arms n k ended d want vars s) left
+  pub arms-more : k < n → z ≡ armsRule run e id list arms (suc (n - (k + 1))) k ended d want vars s → z ≡ armsRule run e id list arms (n - k) k ended d want vars s
+  arms-more = at-item (λ m. armsRule run e id list arms m k ended d want vars s) n k
 
-module _ (run : Run) (e : Env) (list fields left k : ℕ) (d : Bool) (vars : ℕ) (s : State) {z : Ans} where
-  pub fields-none : left ≡ 0 → z ≡ fieldsRule run e list fields 0 k d vars s → z ≡ fieldsRule run e list fields left k d vars s
-  fields-none = at-none (λ n. fieldsRule run e list fields n k d vars s) left
+module _ (run : Run) (e : Env) (list fields n k : ℕ) (d : Bool) (vars : ℕ) (s : State) {z : Ans} where
+  pub fields-none : n ≤ k → z ≡ fieldsRule run e list fields 0 k d vars s → z ≡ fieldsRule run e list fields (n - k) k d vars s
+  fields-none = past-items (λ m. fieldsRule run e list fields m k d vars s) n k
 
-  pub fields-more : (left ≡ 0 → ⊥) → z ≡ fieldsRule run e list fields (suc (left - 1)) k d vars s → z ≡ fieldsRule run e list fields left k d vars s
-  fields-more = at-more (λ n. fieldsRule run e list fields n k d vars s) left
+  pub fields-more : k < n → z ≡ fieldsRule run e list fields (suc (n - (k + 1))) k d vars s → z ≡ fieldsRule run e list fields (n - k) k d vars s
+  fields-more = at-item (λ m. fieldsRule run e list fields m k d vars s) n k
 
 module _ (run : Run) (e : Env) (id value vars : ℕ) (s : State) {z : Ans} where
   pub returned-none : value ≡ 0 → z ≡ returnedRule run e id 0 vars s → z ≡ returnedRule run e id value vars s

@@ -1,6 +1,7 @@
 // The rules of module 4, one function a rule, with the names of the Rust where it has one. They call each other as the Rust's do; the depth
 // left falls at each level.
-ghost use Prim.Native.Nat.{_+_, _<_};
+ghost use mathlib.Core.Bool.{true, false};
+ghost use Prim.Native.Nat.{_<_};
 ghost use Rattle.expr.specs.State.{st, env};
 ghost use Rattle.expr.specs.Ready.{Coded, Given, Fielded, Ran};
 ghost use Rattle.expr.specs.Rules.{letRule, stmtRule, stmtsRule, lastRule, blockRule, rightRule, operatorRule, guardRule, bodyRule, armRule, armsRule, casesRule, matchRule, fieldsRule, recordRule, fieldRule, returnedRule, returnRule, kindRule, exprRule};
@@ -181,7 +182,7 @@ pub fn stmt(
     }
 }
 
-// The statements of a list from the k-th on.
+// The statements of a list of n, in order.
 pub fn stmts(
     pack: &[u8],
     c: Counts,
@@ -193,34 +194,19 @@ pub fn stmts(
     notes: &mut [u32; Notes::CAPACITY],
     depth: u32,
     list: u32,
-    left: u32,
-    k: u32,
-    d: bool,
+    n: u32,
     vars: u32,
 ) -> Step
-    requires { ⌜ (k + left < 65536) × (Given (env (now pack) c (now same) (now marks) ret) vars (st (now cells) (now slots) (now notes))) ⌝ }
-    ensures { λ r. ⌜ Ran vars (stmtsRule (exprRule depth (env (now (pack .entry)) c (now (same .entry)) (now (marks .entry)) ret)) (env (now (pack .entry)) c (now (same .entry)) (now (marks .entry)) ret) list left k d vars (st (now (cells .entry)) (now (slots .entry)) (now (notes .entry))))
+    requires { ⌜ Given (env (now pack) c (now same) (now marks) ret) vars (st (now cells) (now slots) (now notes)) ⌝ }
+    ensures { λ r. ⌜ Ran vars (stmtsRule (exprRule depth (env (now (pack .entry)) c (now (same .entry)) (now (marks .entry)) ret)) (env (now (pack .entry)) c (now (same .entry)) (now (marks .entry)) ret) list n 0 false vars (st (now (cells .entry)) (now (slots .entry)) (now (notes .entry))))
         r (now (cells .exit)) (now (slots .exit)) (now (notes .exit)) ⌝ }
 {
-    if left == 0 {
-        return done(d, 0, vars);
-    }
-    let id = list_item(pack, c, list, k);
-    match stmt(
-        pack,
-        c,
-        same,
-        marks,
-        ret,
-        cells,
-        slots,
-        notes,
-        depth,
-        id,
-        vars,
-    ) {
-        Step::Refused(f) => Step::Refused(f),
-        Step::Done(o) => stmts(
+    let mut k: u32 = 0;
+    let mut d = false;
+    let mut used = vars;
+    while k < n {
+        let id = list_item(pack, c, list, k);
+        match stmt(
             pack,
             c,
             same,
@@ -230,13 +216,20 @@ pub fn stmts(
             slots,
             notes,
             depth,
-            list,
-            left - 1,
-            k + 1,
-            either(d, o.diverges),
-            o.vars,
-        ),
+            id,
+            used,
+        ) {
+            Step::Refused(f) => {
+                return Step::Refused(f);
+            }
+            Step::Done(o) => {
+                d = either(d, o.diverges);
+                used = o.vars;
+                k += 1;
+            }
+        }
     }
+    done(d, 0, used)
 }
 
 // A block's last expression, stored as last+1, or unit unless diverged.
@@ -315,8 +308,6 @@ pub fn block(
         depth,
         n.a,
         left,
-        0,
-        false,
         vars,
     ) {
         Step::Refused(f) => Step::Refused(f),
@@ -608,7 +599,7 @@ pub fn arm(
     }
 }
 
-// The arms of a match from the k-th on; ended: an unguarded `_` came before.
+// The n arms of a match, in order; none may come after an unguarded `_`.
 pub fn arms_from(
     pack: &[u8],
     c: Counts,
@@ -622,65 +613,51 @@ pub fn arms_from(
     id: u32,
     list: u32,
     arms: u32,
-    left: u32,
-    k: u32,
-    ended: bool,
-    d: bool,
+    n: u32,
     want: u32,
     vars: u32,
 ) -> Step
-    requires { ⌜ (k + left < 65536) × (Given (env (now pack) c (now same) (now marks) ret) vars (st (now cells) (now slots) (now notes)) × Coded vars want) ⌝ }
-    ensures { λ r. ⌜ Ran vars (armsRule (exprRule depth (env (now (pack .entry)) c (now (same .entry)) (now (marks .entry)) ret)) (env (now (pack .entry)) c (now (same .entry)) (now (marks .entry)) ret) id list arms left k ended d want vars (st (now (cells .entry)) (now (slots .entry)) (now (notes .entry))))
+    requires { ⌜ (n < 65536) × (Given (env (now pack) c (now same) (now marks) ret) vars (st (now cells) (now slots) (now notes)) × Coded vars want) ⌝ }
+    ensures { λ r. ⌜ Ran vars (armsRule (exprRule depth (env (now (pack .entry)) c (now (same .entry)) (now (marks .entry)) ret)) (env (now (pack .entry)) c (now (same .entry)) (now (marks .entry)) ret) id list arms n 0 false true want vars (st (now (cells .entry)) (now (slots .entry)) (now (notes .entry))))
         r (now (cells .exit)) (now (slots .exit)) (now (notes .exit)) ⌝ }
 {
-    if left == 0 {
-        return done(d, 0, vars);
-    }
-    if ended {
-        return refuse(25, list_item(pack, c, arms, 4 * k + 3), 0);
-    }
-    match arm(
-        pack,
-        c,
-        same,
-        marks,
-        ret,
-        cells,
-        slots,
-        notes,
-        depth,
-        id,
-        list,
-        arms,
-        k,
-        want,
-        vars,
-    ) {
-        Step::Refused(f) => Step::Refused(f),
-        Step::Done(o) => {
-            let end = ends_arms(pack, c, arms, k);
-            arms_from(
-                pack,
-                c,
-                same,
-                marks,
-                ret,
-                cells,
-                slots,
-                notes,
-                depth,
-                id,
-                list,
-                arms,
-                left - 1,
-                k + 1,
-                end,
-                both(d, o.diverges),
-                want,
-                o.vars,
-            )
+    let mut k: u32 = 0;
+    let mut ended = false;
+    let mut d = true;
+    let mut used = vars;
+    while k < n {
+        if ended {
+            return refuse(25, list_item(pack, c, arms, 4 * k + 3), 0);
+        }
+        match arm(
+            pack,
+            c,
+            same,
+            marks,
+            ret,
+            cells,
+            slots,
+            notes,
+            depth,
+            id,
+            list,
+            arms,
+            k,
+            want,
+            used,
+        ) {
+            Step::Refused(f) => {
+                return Step::Refused(f);
+            }
+            Step::Done(o) => {
+                ended = ends_arms(pack, c, arms, k);
+                d = both(d, o.diverges);
+                used = o.vars;
+                k += 1;
+            }
         }
     }
+    done(d, 0, used)
 }
 
 // The arms of a match on an enum, and whether they leave a variant out.
@@ -719,9 +696,6 @@ pub fn cases(
         list,
         arms,
         left,
-        0,
-        false,
-        true,
         want,
         vars,
     ) {
@@ -804,7 +778,7 @@ pub fn match_expr(
     }
 }
 
-// The fields given to a record, from the k-th on.
+// The n fields given to a record, in written order.
 pub fn fields_from(
     pack: &[u8],
     c: Counts,
@@ -817,37 +791,21 @@ pub fn fields_from(
     depth: u32,
     list: u32,
     fields: u32,
-    left: u32,
-    k: u32,
-    d: bool,
+    n: u32,
     vars: u32,
 ) -> Step
-    requires { ⌜ ((k + left < 65536) × Fielded (env (now pack) c (now same) (now marks) ret) list fields left k) × (Given (env (now pack) c (now same) (now marks) ret) vars (st (now cells) (now slots) (now notes))) ⌝ }
-    ensures { λ r. ⌜ Ran vars (fieldsRule (exprRule depth (env (now (pack .entry)) c (now (same .entry)) (now (marks .entry)) ret)) (env (now (pack .entry)) c (now (same .entry)) (now (marks .entry)) ret) list fields left k d vars (st (now (cells .entry)) (now (slots .entry)) (now (notes .entry))))
+    requires { ⌜ ((n < 65536) × Fielded (env (now pack) c (now same) (now marks) ret) list fields n 0) × (Given (env (now pack) c (now same) (now marks) ret) vars (st (now cells) (now slots) (now notes))) ⌝ }
+    ensures { λ r. ⌜ Ran vars (fieldsRule (exprRule depth (env (now (pack .entry)) c (now (same .entry)) (now (marks .entry)) ret)) (env (now (pack .entry)) c (now (same .entry)) (now (marks .entry)) ret) list fields n 0 false vars (st (now (cells .entry)) (now (slots .entry)) (now (notes .entry))))
         r (now (cells .exit)) (now (slots .exit)) (now (notes .exit)) ⌝ }
 {
-    if left == 0 {
-        return done(d, 0, vars);
-    }
-    let name = list_item(pack, c, fields, 2 * k);
-    let value = list_item(pack, c, fields, 2 * k + 1);
-    let code = type_code(pack, c, same, member_of(pack, c, list, name));
-    match expr(
-        pack,
-        c,
-        same,
-        marks,
-        ret,
-        cells,
-        slots,
-        notes,
-        depth,
-        value,
-        code,
-        vars,
-    ) {
-        Step::Refused(f) => Step::Refused(f),
-        Step::Done(o) => fields_from(
+    let mut k: u32 = 0;
+    let mut d = false;
+    let mut used = vars;
+    while k < n {
+        let name = list_item(pack, c, fields, 2 * k);
+        let value = list_item(pack, c, fields, 2 * k + 1);
+        let code = type_code(pack, c, same, member_of(pack, c, list, name));
+        match expr(
             pack,
             c,
             same,
@@ -857,14 +815,21 @@ pub fn fields_from(
             slots,
             notes,
             depth,
-            list,
-            fields,
-            left - 1,
-            k + 1,
-            either(d, o.diverges),
-            o.vars,
-        ),
+            value,
+            code,
+            used,
+        ) {
+            Step::Refused(f) => {
+                return Step::Refused(f);
+            }
+            Step::Done(o) => {
+                d = either(d, o.diverges);
+                used = o.vars;
+                k += 1;
+            }
+        }
     }
+    done(d, 0, used)
 }
 
 // A record of a definition.
@@ -904,8 +869,6 @@ pub fn record_fields(
             row.list,
             n.b,
             left,
-            0,
-            false,
             vars,
         ) {
             Step::Refused(f) => Step::Refused(f),

@@ -38,7 +38,7 @@ claims t = (
 
 module _ (t : ℕ) where
   stmts-requires : block-lts.Need-stmts-requires (claims t) (block-at t) block.Post
-  stmts-requires c κs = (search needs, (search needs, (c .before .before .before .before .before .pre .1 .0)))
+  stmts-requires c κs = (search needs, (c .before .before .before .before .before .pre .1 .0))
 
   last-requires : block-lts.Need-last-requires (claims t) (block-at t) block.Post
   last-requires c κs = (search needs, ((given-after (c .before .before .before .before .before .before .before .before .before .before .before .before .pre .1 .0) (c .before .before .before .before .before .before .stmts .ensures) (c .before .before .before .before .o .given .1)), (coded-more (after (c .before .before .before .before .before .before .stmts .ensures) (c .before .before .before .before .o .given .1) .0) (c .before .before .before .before .before .before .before .before .before .before .before .before .pre .1 .1))))

@@ -71,7 +71,7 @@ abbrev pub arm-body-below : ℕ → In 6 arm-body-kinds.ps
 arm-body-below t = and 6 arm-body-kinds.ps (falls 6 arm-body-kinds.ps _<_ μ-arm-body t) arm-body.Pre
 
 abbrev pub μ-arms-from : Measures 6 arms-from-kinds.ps ℕ
-μ-arms-from κs a = a .1 .1 .1 .1 .1 .1 .1 .1 .0 * 1000000 + 4 + a .1 .1 .1 .1 .1 .1 .1 .1 .1 .1 .1 .1 .0
+μ-arms-from κs a = a .1 .1 .1 .1 .1 .1 .1 .1 .0 * 1000000 + 4
 
 abbrev pub arms-from-at : ℕ → In 6 arms-from-kinds.ps
 arms-from-at t = and 6 arms-from-kinds.ps (is 6 arms-from-kinds.ps μ-arms-from t) arms-from.Pre
@@ -116,7 +116,7 @@ abbrev pub expr-below : ℕ → In 6 expr-kinds.ps
 expr-below t = and 6 expr-kinds.ps (falls 6 expr-kinds.ps _<_ μ-expr t) expr.Pre
 
 abbrev pub μ-fields-from : Measures 6 fields-from-kinds.ps ℕ
-μ-fields-from κs a = a .1 .1 .1 .1 .1 .1 .1 .1 .0 * 1000000 + 1 + a .1 .1 .1 .1 .1 .1 .1 .1 .1 .1 .1 .0
+μ-fields-from κs a = a .1 .1 .1 .1 .1 .1 .1 .1 .0 * 1000000 + 1
 
 abbrev pub fields-from-at : ℕ → In 6 fields-from-kinds.ps
 fields-from-at t = and 6 fields-from-kinds.ps (is 6 fields-from-kinds.ps μ-fields-from t) fields-from.Pre
@@ -215,7 +215,7 @@ abbrev pub stmt-below : ℕ → In 6 stmt-kinds.ps
 stmt-below t = and 6 stmt-kinds.ps (falls 6 stmt-kinds.ps _<_ μ-stmt t) stmt.Pre
 
 abbrev pub μ-stmts : Measures 6 stmts-kinds.ps ℕ
-μ-stmts κs a = a .1 .1 .1 .1 .1 .1 .1 .1 .0 * 1000000 + 3 + a .1 .1 .1 .1 .1 .1 .1 .1 .1 .1 .0
+μ-stmts κs a = a .1 .1 .1 .1 .1 .1 .1 .1 .0 * 1000000 + 3
 
 abbrev pub stmts-at : ℕ → In 6 stmts-kinds.ps
 stmts-at t = and 6 stmts-kinds.ps (is 6 stmts-kinds.ps μ-stmts t) stmts.Pre

@@ -1,5 +1,5 @@
 -- The answers of `fields_from`.
-use Prim.Native.Nat.{ℕ}
+use Prim.Native.Nat.{ℕ, _-_}
 use Rattle.expr.proofs.answer.done.Reads as done-reads
 use Rattle.laws.proofs.either.Reads as either-reads
 use Rattle.members.proofs.member_of.Reads as member-of-reads
@@ -8,20 +8,14 @@ use Rattle.structure.proofs.type_code.Reads as type-code-reads
 use Rattle.expr.proofs.rules.expr.Reads as expr
 use Rattle.expr.proofs.rules.fields_from.Reads as fields-from
 use Rattle.expr.proofs.rules.+access_field+arm+arm_body+arms_from+binop+block+cases+expr+fields_from+guarded+last+let_stmt+match_expr+record_fields+return_expr+returned+right+rule+stmt+stmts.Lts-fields_from as fields-from-lts
-use Rattle.expr.proofs.rules.+access_field+arm+arm_body+arms_from+binop+block+cases+expr+fields_from+guarded+last+let_stmt+match_expr+record_fields+return_expr+returned+right+rule+stmt+stmts.Proof.Common.{expr-below, fields-from-at, fields-from-below}
+use Rattle.expr.proofs.rules.+access_field+arm+arm_body+arms_from+binop+block+cases+expr+fields_from+guarded+last+let_stmt+match_expr+record_fields+return_expr+returned+right+rule+stmt+stmts.Proof.Common.{expr-below, fields-from-at}
 use borrow.Author.Needs.{needs}
-use Rattle.expr.specs.Rules.{fieldsRule}
-use Rattle.expr.proofs.Steps.{is}
-use Rattle.expr.proofs.Recursions.{fields-none}
-use Rattle.expr.proofs.Meets.{meets-fields}
-use Rattle.expr.proofs.Paths.{fields-stop, fields-go}
-use Rattle.expr.proofs.Keeps.{given-after}
-use Rattle.expr.proofs.Given.{field-coded, fields-left}
+use Rattle.expr.specs.State.{env, st}
+use Rattle.expr.proofs.Lists.{FieldsLeft, fields-start, fields-end, fields-stop, fields-go}
+use Rattle.expr.proofs.Given.{field-coded}
 
 abbrev claims : ℕ → fields-from-lts.Claims
 claims t = (
-  done-reads.Asked,
-  done-reads.Learnt,
   list-item-reads.Asked,
   list-item-reads.Learnt,
   member-of-reads.Asked,
@@ -32,30 +26,37 @@ claims t = (
   expr.Post,
   either-reads.Asked,
   either-reads.Learnt,
-  fields-from-below t,
-  fields-from.Post,
+  done-reads.Asked,
+  done-reads.Learnt,
 )
 
+abbrev Inv-loop : fields-from-lts.InvT-loop
+Inv-loop pack c same marks ret cells₀ slots₀ notes₀ depth list fields n vars k₀ d₀ used₀ cells slots notes k d used =
+    FieldsLeft depth (env pack c same marks ret) list fields n vars (st cells₀ slots₀ notes₀) k d used (st cells slots notes)
+
+abbrev μ-loop : fields-from-lts.MeasureT-loop
+μ-loop pack c same marks ret cells₀ slots₀ notes₀ depth list fields n vars k₀ d₀ used₀ cells slots notes k d used = n - k
+
 module _ (t : ℕ) where
-  returns : fields-from-lts.Need-returns (claims t) (fields-from-at t) fields-from.Post
-  returns c = meets-fields (c .before .before .before .pre .1 .1) _ _ _ _ _ _ (c .before .before .before .pre .1 .0 .1) (fields-none _ _ _ _ _ _ _ _ _ (c .before .if1 .taken) (unfold fieldsRule in is (c .done .ensures)))
+  loop-holds : fields-from-lts.Need-loop-holds (claims t) (fields-from-at t) fields-from.Post Inv-loop μ-loop
+  loop-holds c = fields-start (c .before .pre .1 .1) _ _ _ _
 
-  expr-requires : fields-from-lts.Need-expr-requires (claims t) (fields-from-at t) fields-from.Post
-  expr-requires c κs = (search needs, ((c .before .before .before .before .before .before .before .before .before .pre .1 .1), field-coded (c .before .before .before .before .before .before .before .before .before .pre .1 .0 .1) (c .before .before .before .before .before .before .before .if1 .left) (c .before .before .before .before .before .before .list-item .ensures .same) (c .before .before .before .before .member-of .ensures) (c .before .before .before .type-code .ensures)))
+  expr-requires : fields-from-lts.Need-expr-requires (claims t) (fields-from-at t) fields-from.Post Inv-loop μ-loop
+  expr-requires c κs = (search needs, (c .before .before .before .before .before .before .before .before .loop .inv .given, field-coded (c .before .before .before .before .before .before .before .before .before .before .pre .1 .0 .1) (c .before .before .before .before .before .before .before .loop-test .taken) (c .before .before .before .before .before .before .list-item .ensures .same) (c .before .before .before .before .member-of .ensures) (c .before .before .before .type-code .ensures)))
 
-  add-fields-from : fields-from-lts.Need-add-fields-from (claims t) (fields-from-at t) fields-from.Post
-  add-fields-from c = search (needs, c .before .before .before .before .before .before .before .before .before .before .before .before .before .before .before .before .pre .1 .0 .0)
+  returns : fields-from-lts.Need-returns (claims t) (fields-from-at t) fields-from.Post Inv-loop μ-loop
+  returns c = fields-stop (c .before .before .before .before .before .before .before .before .before .before .before .before .before .before .pre .1 .1) _ _ _ _ _ _ (c .before .before .before .before .before .before .before .before .before .before .before .before .before .before .pre .1 .0 .1) (c .before .before .before .before .before .before .before .before .before .before .before .before .loop .inv) (c .before .before .before .before .before .before .before .before .before .before .before .loop-test .taken) (c .before .before .before .before .before .before .before .before .before .before .list-item .ensures .same) (c .before .before .before .before .before .before .before .before .before .list-item2 .ensures .same) (c .before .before .before .before .before .before .before .before .member-of .ensures) (c .before .before .before .before .before .before .before .type-code .ensures) (c .before .before .before .expr .ensures) (c .before .f .given .1)
 
-  fields-from-requires : fields-from-lts.Need-fields-from-requires (claims t) (fields-from-at t) fields-from.Post
-  fields-from-requires c κs = (search needs, ((search (needs, c .before .before .before .before .before .before .before .before .before .before .before .before .before .before .before .before .before .pre .1 .0 .0, c .before .before .before .before .before .before .before .before .before .before .before .before .before .before .before .if1 .left), fields-left (c .before .before .before .before .before .before .before .before .before .before .before .before .before .before .before .before .before .pre .1 .0 .1) (c .before .before .before .before .before .before .before .before .before .before .before .before .before .before .before .if1 .left)), given-after (c .before .before .before .before .before .before .before .before .before .before .before .before .before .before .before .before .before .pre .1 .1) (c .before .before .before .before .before .before .before .expr .ensures) (c .before .before .before .before .before .o .given .1)))
+  add-k : fields-from-lts.Need-add-k (claims t) (fields-from-at t) fields-from.Post Inv-loop μ-loop
+  add-k c = search (needs, c .before .before .before .before .before .before .before .before .before .before .before .before .before .before .before .pre .1 .0 .0, c .before .before .before .before .before .before .before .before .before .before .before .before .loop-test .taken)
 
-  returns-2 : fields-from-lts.Need-returns-2 (claims t) (fields-from-at t) fields-from.Post
-  returns-2 c = fields-stop (c .before .before .before .before .before .before .before .before .before .before .before .before .before .pre .1 .1) _ _ _ _ _ _ (c .before .before .before .before .before .before .before .before .before .before .before .before .before .pre .1 .0 .1) (c .before .before .before .before .before .before .before .before .before .before .before .if1 .left) (c .before .before .before .before .before .before .before .before .before .before .list-item .ensures .same) (c .before .before .before .before .before .before .before .before .before .list-item2 .ensures .same) (c .before .before .before .before .before .before .before .before .member-of .ensures) (c .before .before .before .before .before .before .before .type-code .ensures) (c .before .before .before .expr .ensures) (c .before .f .given .1)
+  loop-again : fields-from-lts.Need-loop-again (claims t) (fields-from-at t) fields-from.Post Inv-loop μ-loop
+  loop-again c = fields-go (c .before .before .before .before .before .before .before .before .before .before .before .before .before .before .before .pre .1 .1) _ _ _ _ _ _ (c .before .before .before .before .before .before .before .before .before .before .before .before .before .before .before .pre .1 .0 .1) (c .before .before .before .before .before .before .before .before .before .before .before .before .before .loop .inv) (c .before .before .before .before .before .before .before .before .before .before .before .before .loop-test .taken) (c .before .before .before .before .before .before .before .before .before .before .before .list-item .ensures .same) (c .before .before .before .before .before .before .before .before .before .before .list-item2 .ensures .same) (c .before .before .before .before .before .before .before .before .before .member-of .ensures) (c .before .before .before .before .before .before .before .before .type-code .ensures) (c .before .before .before .before .expr .ensures) (c .before .before .o .given .1) (c .either .ensures)
 
-  returns-3 : fields-from-lts.Need-returns-3 (claims t) (fields-from-at t) fields-from.Post
-  returns-3 c = fields-go (c .before .before .before .before .before .before .before .before .before .before .before .before .before .before .before .before .before .before .pre .1 .1) _ _ _ _ _ _ (c .before .before .before .before .before .before .before .before .before .before .before .before .before .before .before .before .before .before .pre .1 .0 .1) (c .before .before .before .before .before .before .before .before .before .before .before .before .before .before .before .before .if1 .left) (c .before .before .before .before .before .before .before .before .before .before .before .before .before .before .before .list-item .ensures .same) (c .before .before .before .before .before .before .before .before .before .before .before .before .before .before .list-item2 .ensures .same) (c .before .before .before .before .before .before .before .before .before .before .before .before .before .member-of .ensures) (c .before .before .before .before .before .before .before .before .before .before .before .before .type-code .ensures) (c .before .before .before .before .before .before .before .before .expr .ensures) (c .before .before .before .before .before .before .o .given .1) (c .before .either .ensures) (c .fields-from .ensures)
+  returns-2 : fields-from-lts.Need-returns-2 (claims t) (fields-from-at t) fields-from.Post Inv-loop μ-loop
+  returns-2 c = fields-end (c .before .before .before .before .pre .1 .1) _ _ _ _ _ _ (c .before .before .before .before .pre .1 .0 .1) (c .before .before .loop .inv) (c .before .loop-test .left) (c .done .ensures)
 
   pub fields-from-closed : {M : Type 1} → fields-from-lts.Closed (claims t) (fields-from-at t) fields-from.Post M
   fields-from-closed =
-      fields-from-lts.spec (claims t) (fields-from-at t) fields-from.Post
-      (λ c κs. search needs) returns (λ c. search needs) (λ c κs. search needs) (λ c. search needs) (λ c. search needs) (λ c κs. search needs) (λ c κs. search needs) (λ c κs. search needs) expr-requires (λ c. search needs) (λ c. search needs) (λ c. search needs) add-fields-from (λ c κs. search needs) fields-from-requires returns-2 returns-3
+      fields-from-lts.spec (claims t) (fields-from-at t) fields-from.Post Inv-loop μ-loop
+      loop-holds (λ c. search needs) (λ c κs. search needs) (λ c. search needs) (λ c. search needs) (λ c κs. search needs) (λ c κs. search needs) (λ c κs. search needs) expr-requires (λ c. search needs) returns (λ c. search needs) (λ c κs. search needs) add-k (λ c. search needs) loop-again (λ c κs. search needs) returns-2
