@@ -600,7 +600,7 @@ pub fn arm(
 }
 
 // The n arms of a match, in order; none may come after an unguarded `_`.
-pub fn arms_from(
+pub fn arms_in_order(
     pack: &[u8],
     c: Counts,
     same: &[u32; TypeTable::CAPACITY],
@@ -682,7 +682,7 @@ pub fn cases(
         r (now (cells .exit)) (now (slots .exit)) (now (notes .exit)) ⌝ }
 {
     let left = list_len(pack, c, arms);
-    match arms_from(
+    match arms_in_order(
         pack,
         c,
         same,
@@ -779,7 +779,7 @@ pub fn match_expr(
 }
 
 // The n fields given to a record, in written order.
-pub fn fields_from(
+pub fn fields_in_order(
     pack: &[u8],
     c: Counts,
     same: &[u32; TypeTable::CAPACITY],
@@ -856,7 +856,7 @@ pub fn record_fields(
     if fault.number == 0 {
         let row = definition_row(pack, c, n.a);
         let left = list_len(pack, c, n.b);
-        match fields_from(
+        match fields_in_order(
             pack,
             c,
             same,

@@ -7,8 +7,8 @@ use Rattle.members.proofs.accessed.Reads as accessed-reads
 use Rattle.unify.proofs.resolve_type.Reads as resolve-type-reads
 use Rattle.expr.proofs.rules.access_field.Reads as access-field
 use Rattle.expr.proofs.rules.expr.Reads as expr
-use Rattle.expr.proofs.rules.+access_field+arm+arm_body+arms_from+binop+block+cases+expr+fields_from+guarded+last+let_stmt+match_expr+record_fields+return_expr+returned+right+rule+stmt+stmts.Lts-access_field as access-field-lts
-use Rattle.expr.proofs.rules.+access_field+arm+arm_body+arms_from+binop+block+cases+expr+fields_from+guarded+last+let_stmt+match_expr+record_fields+return_expr+returned+right+rule+stmt+stmts.Proof.Common.{access-field-at, expr-below}
+use Rattle.expr.proofs.rules.+access_field+arm+arm_body+arms_in_order+binop+block+cases+expr+fields_in_order+guarded+last+let_stmt+match_expr+record_fields+return_expr+returned+right+rule+stmt+stmts.Lts-access_field as access-field-lts
+use Rattle.expr.proofs.rules.+access_field+arm+arm_body+arms_in_order+binop+block+cases+expr+fields_in_order+guarded+last+let_stmt+match_expr+record_fields+return_expr+returned+right+rule+stmt+stmts.Proof.Common.{access-field-at, expr-below}
 use borrow.Author.Needs.{needs}
 use Rattle.expr.specs.Rules.{fieldRule}
 use Rattle.expr.proofs.Steps.{typed-none, is}

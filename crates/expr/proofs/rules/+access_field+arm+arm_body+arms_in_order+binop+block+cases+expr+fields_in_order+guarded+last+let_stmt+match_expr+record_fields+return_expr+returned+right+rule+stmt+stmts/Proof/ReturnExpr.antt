@@ -3,8 +3,8 @@ use Prim.Native.Nat.{ℕ}
 use Rattle.expr.proofs.answer.done.Reads as done-reads
 use Rattle.expr.proofs.rules.return_expr.Reads as return-expr
 use Rattle.expr.proofs.rules.returned.Reads as returned
-use Rattle.expr.proofs.rules.+access_field+arm+arm_body+arms_from+binop+block+cases+expr+fields_from+guarded+last+let_stmt+match_expr+record_fields+return_expr+returned+right+rule+stmt+stmts.Lts-return_expr as return-expr-lts
-use Rattle.expr.proofs.rules.+access_field+arm+arm_body+arms_from+binop+block+cases+expr+fields_from+guarded+last+let_stmt+match_expr+record_fields+return_expr+returned+right+rule+stmt+stmts.Proof.Common.{return-expr-at, returned-below}
+use Rattle.expr.proofs.rules.+access_field+arm+arm_body+arms_in_order+binop+block+cases+expr+fields_in_order+guarded+last+let_stmt+match_expr+record_fields+return_expr+returned+right+rule+stmt+stmts.Lts-return_expr as return-expr-lts
+use Rattle.expr.proofs.rules.+access_field+arm+arm_body+arms_in_order+binop+block+cases+expr+fields_in_order+guarded+last+let_stmt+match_expr+record_fields+return_expr+returned+right+rule+stmt+stmts.Proof.Common.{return-expr-at, returned-below}
 use borrow.Author.Needs.{needs}
 use Rattle.expr.specs.Rules.{returnRule}
 use Rattle.expr.proofs.Steps.{goes, stops, is}

@@ -5,8 +5,8 @@ use Rattle.laws.proofs.either.Reads as either-reads
 use Rattle.pack.proofs.list_item.Reads as list-item-reads
 use Rattle.expr.proofs.rules.stmt.Reads as stmt
 use Rattle.expr.proofs.rules.stmts.Reads as stmts
-use Rattle.expr.proofs.rules.+access_field+arm+arm_body+arms_from+binop+block+cases+expr+fields_from+guarded+last+let_stmt+match_expr+record_fields+return_expr+returned+right+rule+stmt+stmts.Lts-stmts as stmts-lts
-use Rattle.expr.proofs.rules.+access_field+arm+arm_body+arms_from+binop+block+cases+expr+fields_from+guarded+last+let_stmt+match_expr+record_fields+return_expr+returned+right+rule+stmt+stmts.Proof.Common.{stmt-below, stmts-at}
+use Rattle.expr.proofs.rules.+access_field+arm+arm_body+arms_in_order+binop+block+cases+expr+fields_in_order+guarded+last+let_stmt+match_expr+record_fields+return_expr+returned+right+rule+stmt+stmts.Lts-stmts as stmts-lts
+use Rattle.expr.proofs.rules.+access_field+arm+arm_body+arms_in_order+binop+block+cases+expr+fields_in_order+guarded+last+let_stmt+match_expr+record_fields+return_expr+returned+right+rule+stmt+stmts.Proof.Common.{stmt-below, stmts-at}
 use borrow.Author.Needs.{needs}
 use Rattle.expr.specs.State.{env, st}
 use Rattle.expr.proofs.Lists.{StmtsLeft, stmts-start, stmts-end, stmts-stop, stmts-go}

@@ -6,8 +6,8 @@ use Rattle.arms.proofs.arm_fault.Reads as arm-fault-reads
 use Rattle.pack.proofs.list_item.Reads as list-item-reads
 use Rattle.expr.proofs.rules.arm.Reads as arm
 use Rattle.expr.proofs.rules.arm_body.Reads as arm-body
-use Rattle.expr.proofs.rules.+access_field+arm+arm_body+arms_from+binop+block+cases+expr+fields_from+guarded+last+let_stmt+match_expr+record_fields+return_expr+returned+right+rule+stmt+stmts.Lts-arm as arm-lts
-use Rattle.expr.proofs.rules.+access_field+arm+arm_body+arms_from+binop+block+cases+expr+fields_from+guarded+last+let_stmt+match_expr+record_fields+return_expr+returned+right+rule+stmt+stmts.Proof.Common.{arm-at, arm-body-below}
+use Rattle.expr.proofs.rules.+access_field+arm+arm_body+arms_in_order+binop+block+cases+expr+fields_in_order+guarded+last+let_stmt+match_expr+record_fields+return_expr+returned+right+rule+stmt+stmts.Lts-arm as arm-lts
+use Rattle.expr.proofs.rules.+access_field+arm+arm_body+arms_in_order+binop+block+cases+expr+fields_in_order+guarded+last+let_stmt+match_expr+record_fields+return_expr+returned+right+rule+stmt+stmts.Proof.Common.{arm-at, arm-body-below}
 use borrow.Author.Needs.{needs}
 use Rattle.expr.proofs.Steps.{is}
 use Rattle.expr.proofs.Paths.{arm-refuses, arm-bound, arm-is}

@@ -6,8 +6,8 @@ use Rattle.expr.proofs.notes.seal.Reads as seal-reads
 use Rattle.pack.proofs.expression_row.Reads as expression-row-reads
 use Rattle.expr.proofs.rules.expr.Reads as expr
 use Rattle.expr.proofs.rules.rule.Reads as rule
-use Rattle.expr.proofs.rules.+access_field+arm+arm_body+arms_from+binop+block+cases+expr+fields_from+guarded+last+let_stmt+match_expr+record_fields+return_expr+returned+right+rule+stmt+stmts.Lts-expr as expr-lts
-use Rattle.expr.proofs.rules.+access_field+arm+arm_body+arms_from+binop+block+cases+expr+fields_from+guarded+last+let_stmt+match_expr+record_fields+return_expr+returned+right+rule+stmt+stmts.Proof.Common.{expr-at, rule-below}
+use Rattle.expr.proofs.rules.+access_field+arm+arm_body+arms_in_order+binop+block+cases+expr+fields_in_order+guarded+last+let_stmt+match_expr+record_fields+return_expr+returned+right+rule+stmt+stmts.Lts-expr as expr-lts
+use Rattle.expr.proofs.rules.+access_field+arm+arm_body+arms_in_order+binop+block+cases+expr+fields_in_order+guarded+last+let_stmt+match_expr+record_fields+return_expr+returned+right+rule+stmt+stmts.Proof.Common.{expr-at, rule-below}
 use borrow.Author.Needs.{needs}
 use Rattle.expr.specs.Rules.{exprRule}
 use Rattle.expr.proofs.Steps.{is}

@@ -10,8 +10,8 @@ use Rattle.expr.proofs.rules.match_expr.Reads as match-expr
 use Rattle.expr.proofs.rules.record_fields.Reads as record-fields
 use Rattle.expr.proofs.rules.return_expr.Reads as return-expr
 use Rattle.expr.proofs.rules.rule.Reads as rule
-use Rattle.expr.proofs.rules.+access_field+arm+arm_body+arms_from+binop+block+cases+expr+fields_from+guarded+last+let_stmt+match_expr+record_fields+return_expr+returned+right+rule+stmt+stmts.Lts-rule as rule-lts
-use Rattle.expr.proofs.rules.+access_field+arm+arm_body+arms_from+binop+block+cases+expr+fields_from+guarded+last+let_stmt+match_expr+record_fields+return_expr+returned+right+rule+stmt+stmts.Proof.Common.{access-field-below, binop-below, block-below, match-expr-below, record-fields-below, return-expr-below, rule-at}
+use Rattle.expr.proofs.rules.+access_field+arm+arm_body+arms_in_order+binop+block+cases+expr+fields_in_order+guarded+last+let_stmt+match_expr+record_fields+return_expr+returned+right+rule+stmt+stmts.Lts-rule as rule-lts
+use Rattle.expr.proofs.rules.+access_field+arm+arm_body+arms_in_order+binop+block+cases+expr+fields_in_order+guarded+last+let_stmt+match_expr+record_fields+return_expr+returned+right+rule+stmt+stmts.Proof.Common.{access-field-below, binop-below, block-below, match-expr-below, record-fields-below, return-expr-below, rule-at}
 use borrow.Author.Needs.{needs}
 use Rattle.laws.specs.Choice.{pick}
 use Rattle.expr.specs.Rules.{kindRule}

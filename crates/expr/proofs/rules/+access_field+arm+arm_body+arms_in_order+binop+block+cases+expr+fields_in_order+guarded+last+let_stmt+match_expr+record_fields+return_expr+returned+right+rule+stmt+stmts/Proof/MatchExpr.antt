@@ -7,8 +7,8 @@ use Rattle.unify.proofs.resolve_type.Reads as resolve-type-reads
 use Rattle.expr.proofs.rules.cases.Reads as cases
 use Rattle.expr.proofs.rules.expr.Reads as expr
 use Rattle.expr.proofs.rules.match_expr.Reads as match-expr
-use Rattle.expr.proofs.rules.+access_field+arm+arm_body+arms_from+binop+block+cases+expr+fields_from+guarded+last+let_stmt+match_expr+record_fields+return_expr+returned+right+rule+stmt+stmts.Lts-match_expr as match-expr-lts
-use Rattle.expr.proofs.rules.+access_field+arm+arm_body+arms_from+binop+block+cases+expr+fields_from+guarded+last+let_stmt+match_expr+record_fields+return_expr+returned+right+rule+stmt+stmts.Proof.Common.{cases-below, expr-below, match-expr-at}
+use Rattle.expr.proofs.rules.+access_field+arm+arm_body+arms_in_order+binop+block+cases+expr+fields_in_order+guarded+last+let_stmt+match_expr+record_fields+return_expr+returned+right+rule+stmt+stmts.Lts-match_expr as match-expr-lts
+use Rattle.expr.proofs.rules.+access_field+arm+arm_body+arms_in_order+binop+block+cases+expr+fields_in_order+guarded+last+let_stmt+match_expr+record_fields+return_expr+returned+right+rule+stmt+stmts.Proof.Common.{cases-below, expr-below, match-expr-at}
 use borrow.Author.Needs.{needs}
 use Rattle.expr.specs.Rules.{matchRule}
 use Rattle.expr.proofs.Steps.{typed-none, is}

@@ -6,8 +6,8 @@ use Rattle.pack.proofs.list_item.Reads as list-item-reads
 use Rattle.expr.proofs.rules.arm_body.Reads as arm-body
 use Rattle.expr.proofs.rules.expr.Reads as expr
 use Rattle.expr.proofs.rules.guarded.Reads as guarded
-use Rattle.expr.proofs.rules.+access_field+arm+arm_body+arms_from+binop+block+cases+expr+fields_from+guarded+last+let_stmt+match_expr+record_fields+return_expr+returned+right+rule+stmt+stmts.Lts-arm_body as arm-body-lts
-use Rattle.expr.proofs.rules.+access_field+arm+arm_body+arms_from+binop+block+cases+expr+fields_from+guarded+last+let_stmt+match_expr+record_fields+return_expr+returned+right+rule+stmt+stmts.Proof.Common.{arm-body-at, expr-below, guarded-below}
+use Rattle.expr.proofs.rules.+access_field+arm+arm_body+arms_in_order+binop+block+cases+expr+fields_in_order+guarded+last+let_stmt+match_expr+record_fields+return_expr+returned+right+rule+stmt+stmts.Lts-arm_body as arm-body-lts
+use Rattle.expr.proofs.rules.+access_field+arm+arm_body+arms_in_order+binop+block+cases+expr+fields_in_order+guarded+last+let_stmt+match_expr+record_fields+return_expr+returned+right+rule+stmt+stmts.Proof.Common.{arm-body-at, expr-below, guarded-below}
 use borrow.Author.Needs.{needs}
 use Rattle.expr.proofs.Kept.{after, coded-more}
 use Rattle.expr.proofs.Paths.{body-guard-stops, body-stops, body-is}

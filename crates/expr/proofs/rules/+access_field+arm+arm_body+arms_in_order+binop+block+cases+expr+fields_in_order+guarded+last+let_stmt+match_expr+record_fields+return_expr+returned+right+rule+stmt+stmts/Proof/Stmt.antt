@@ -5,8 +5,8 @@ use Rattle.pack.proofs.expression_row.Reads as expression-row-reads
 use Rattle.expr.proofs.rules.expr.Reads as expr
 use Rattle.expr.proofs.rules.let_stmt.Reads as let-stmt
 use Rattle.expr.proofs.rules.stmt.Reads as stmt
-use Rattle.expr.proofs.rules.+access_field+arm+arm_body+arms_from+binop+block+cases+expr+fields_from+guarded+last+let_stmt+match_expr+record_fields+return_expr+returned+right+rule+stmt+stmts.Lts-stmt as stmt-lts
-use Rattle.expr.proofs.rules.+access_field+arm+arm_body+arms_from+binop+block+cases+expr+fields_from+guarded+last+let_stmt+match_expr+record_fields+return_expr+returned+right+rule+stmt+stmts.Proof.Common.{expr-below, let-stmt-below, stmt-at}
+use Rattle.expr.proofs.rules.+access_field+arm+arm_body+arms_in_order+binop+block+cases+expr+fields_in_order+guarded+last+let_stmt+match_expr+record_fields+return_expr+returned+right+rule+stmt+stmts.Lts-stmt as stmt-lts
+use Rattle.expr.proofs.rules.+access_field+arm+arm_body+arms_in_order+binop+block+cases+expr+fields_in_order+guarded+last+let_stmt+match_expr+record_fields+return_expr+returned+right+rule+stmt+stmts.Proof.Common.{expr-below, let-stmt-below, stmt-at}
 use borrow.Author.Needs.{needs}
 use Rattle.expr.proofs.Given.{given-typed}
 use Rattle.expr.proofs.Paths.{stmt-let, stmt-none, stmt-is}

@@ -3,8 +3,8 @@ use Prim.Native.Nat.{ℕ}
 use Rattle.expr.proofs.types.meet.Reads as meet-reads
 use Rattle.expr.proofs.rules.expr.Reads as expr
 use Rattle.expr.proofs.rules.returned.Reads as returned
-use Rattle.expr.proofs.rules.+access_field+arm+arm_body+arms_from+binop+block+cases+expr+fields_from+guarded+last+let_stmt+match_expr+record_fields+return_expr+returned+right+rule+stmt+stmts.Lts-returned as returned-lts
-use Rattle.expr.proofs.rules.+access_field+arm+arm_body+arms_from+binop+block+cases+expr+fields_from+guarded+last+let_stmt+match_expr+record_fields+return_expr+returned+right+rule+stmt+stmts.Proof.Common.{expr-below, returned-at}
+use Rattle.expr.proofs.rules.+access_field+arm+arm_body+arms_in_order+binop+block+cases+expr+fields_in_order+guarded+last+let_stmt+match_expr+record_fields+return_expr+returned+right+rule+stmt+stmts.Lts-returned as returned-lts
+use Rattle.expr.proofs.rules.+access_field+arm+arm_body+arms_in_order+binop+block+cases+expr+fields_in_order+guarded+last+let_stmt+match_expr+record_fields+return_expr+returned+right+rule+stmt+stmts.Proof.Common.{expr-below, returned-at}
 use borrow.Author.Needs.{needs}
 use native.Mathlib.Omega.{arith}
 use Rattle.expr.specs.Rules.{returnedRule}

@@ -9,8 +9,8 @@ use Rattle.slots.proofs.close_lets.Reads as close-lets-reads
 use Rattle.expr.proofs.rules.block.Reads as block
 use Rattle.expr.proofs.rules.last.Reads as last
 use Rattle.expr.proofs.rules.stmts.Reads as stmts
-use Rattle.expr.proofs.rules.+access_field+arm+arm_body+arms_from+binop+block+cases+expr+fields_from+guarded+last+let_stmt+match_expr+record_fields+return_expr+returned+right+rule+stmt+stmts.Lts-block as block-lts
-use Rattle.expr.proofs.rules.+access_field+arm+arm_body+arms_from+binop+block+cases+expr+fields_from+guarded+last+let_stmt+match_expr+record_fields+return_expr+returned+right+rule+stmt+stmts.Proof.Common.{block-at, last-below, stmts-below}
+use Rattle.expr.proofs.rules.+access_field+arm+arm_body+arms_in_order+binop+block+cases+expr+fields_in_order+guarded+last+let_stmt+match_expr+record_fields+return_expr+returned+right+rule+stmt+stmts.Lts-block as block-lts
+use Rattle.expr.proofs.rules.+access_field+arm+arm_body+arms_in_order+binop+block+cases+expr+fields_in_order+guarded+last+let_stmt+match_expr+record_fields+return_expr+returned+right+rule+stmt+stmts.Proof.Common.{block-at, last-below, stmts-below}
 use borrow.Author.Needs.{needs}
 use Rattle.expr.proofs.Kept.{after, coded-more}
 use Rattle.expr.proofs.Paths.{block-stops, block-last-stops, block-is}

@@ -8,8 +8,8 @@ use Rattle.expr.proofs.rules.arm.Reads as arm
 use Rattle.expr.proofs.rules.arm.Kinds as arm-kinds
 use Rattle.expr.proofs.rules.arm_body.Reads as arm-body
 use Rattle.expr.proofs.rules.arm_body.Kinds as arm-body-kinds
-use Rattle.expr.proofs.rules.arms_from.Reads as arms-from
-use Rattle.expr.proofs.rules.arms_from.Kinds as arms-from-kinds
+use Rattle.expr.proofs.rules.arms_in_order.Reads as arms-in-order
+use Rattle.expr.proofs.rules.arms_in_order.Kinds as arms-in-order-kinds
 use Rattle.expr.proofs.rules.binop.Reads as binop
 use Rattle.expr.proofs.rules.binop.Kinds as binop-kinds
 use Rattle.expr.proofs.rules.block.Reads as block
@@ -18,8 +18,8 @@ use Rattle.expr.proofs.rules.cases.Reads as cases
 use Rattle.expr.proofs.rules.cases.Kinds as cases-kinds
 use Rattle.expr.proofs.rules.expr.Reads as expr
 use Rattle.expr.proofs.rules.expr.Kinds as expr-kinds
-use Rattle.expr.proofs.rules.fields_from.Reads as fields-from
-use Rattle.expr.proofs.rules.fields_from.Kinds as fields-from-kinds
+use Rattle.expr.proofs.rules.fields_in_order.Reads as fields-in-order
+use Rattle.expr.proofs.rules.fields_in_order.Kinds as fields-in-order-kinds
 use Rattle.expr.proofs.rules.guarded.Reads as guarded
 use Rattle.expr.proofs.rules.guarded.Kinds as guarded-kinds
 use Rattle.expr.proofs.rules.last.Reads as last
@@ -70,14 +70,14 @@ arm-body-at t = and 6 arm-body-kinds.ps (is 6 arm-body-kinds.ps μ-arm-body t) a
 abbrev pub arm-body-below : ℕ → In 6 arm-body-kinds.ps
 arm-body-below t = and 6 arm-body-kinds.ps (falls 6 arm-body-kinds.ps _<_ μ-arm-body t) arm-body.Pre
 
-abbrev pub μ-arms-from : Measures 6 arms-from-kinds.ps ℕ
-μ-arms-from κs a = a .1 .1 .1 .1 .1 .1 .1 .1 .0 * 1000000 + 4
+abbrev pub μ-arms-in-order : Measures 6 arms-in-order-kinds.ps ℕ
+μ-arms-in-order κs a = a .1 .1 .1 .1 .1 .1 .1 .1 .0 * 1000000 + 4
 
-abbrev pub arms-from-at : ℕ → In 6 arms-from-kinds.ps
-arms-from-at t = and 6 arms-from-kinds.ps (is 6 arms-from-kinds.ps μ-arms-from t) arms-from.Pre
+abbrev pub arms-in-order-at : ℕ → In 6 arms-in-order-kinds.ps
+arms-in-order-at t = and 6 arms-in-order-kinds.ps (is 6 arms-in-order-kinds.ps μ-arms-in-order t) arms-in-order.Pre
 
-abbrev pub arms-from-below : ℕ → In 6 arms-from-kinds.ps
-arms-from-below t = and 6 arms-from-kinds.ps (falls 6 arms-from-kinds.ps _<_ μ-arms-from t) arms-from.Pre
+abbrev pub arms-in-order-below : ℕ → In 6 arms-in-order-kinds.ps
+arms-in-order-below t = and 6 arms-in-order-kinds.ps (falls 6 arms-in-order-kinds.ps _<_ μ-arms-in-order t) arms-in-order.Pre
 
 abbrev pub μ-binop : Measures 6 binop-kinds.ps ℕ
 μ-binop κs a = a .1 .1 .1 .1 .1 .1 .1 .1 .0 * 1000000 + 800000
@@ -115,14 +115,14 @@ expr-at t = and 6 expr-kinds.ps (is 6 expr-kinds.ps μ-expr t) expr.Pre
 abbrev pub expr-below : ℕ → In 6 expr-kinds.ps
 expr-below t = and 6 expr-kinds.ps (falls 6 expr-kinds.ps _<_ μ-expr t) expr.Pre
 
-abbrev pub μ-fields-from : Measures 6 fields-from-kinds.ps ℕ
-μ-fields-from κs a = a .1 .1 .1 .1 .1 .1 .1 .1 .0 * 1000000 + 1
+abbrev pub μ-fields-in-order : Measures 6 fields-in-order-kinds.ps ℕ
+μ-fields-in-order κs a = a .1 .1 .1 .1 .1 .1 .1 .1 .0 * 1000000 + 1
 
-abbrev pub fields-from-at : ℕ → In 6 fields-from-kinds.ps
-fields-from-at t = and 6 fields-from-kinds.ps (is 6 fields-from-kinds.ps μ-fields-from t) fields-from.Pre
+abbrev pub fields-in-order-at : ℕ → In 6 fields-in-order-kinds.ps
+fields-in-order-at t = and 6 fields-in-order-kinds.ps (is 6 fields-in-order-kinds.ps μ-fields-in-order t) fields-in-order.Pre
 
-abbrev pub fields-from-below : ℕ → In 6 fields-from-kinds.ps
-fields-from-below t = and 6 fields-from-kinds.ps (falls 6 fields-from-kinds.ps _<_ μ-fields-from t) fields-from.Pre
+abbrev pub fields-in-order-below : ℕ → In 6 fields-in-order-kinds.ps
+fields-in-order-below t = and 6 fields-in-order-kinds.ps (falls 6 fields-in-order-kinds.ps _<_ μ-fields-in-order t) fields-in-order.Pre
 
 abbrev pub μ-guarded : Measures 6 guarded-kinds.ps ℕ
 μ-guarded κs a = a .1 .1 .1 .1 .1 .1 .1 .1 .0 * 1000000 + 1
