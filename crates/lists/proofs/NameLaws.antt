@@ -25,7 +25,7 @@ use Rattle.lists.specs.Peaks.{key, lastOf, earlier, region, Earlier, wei
 use Rattle.lists.proofs.ListLaws.{light}
 
 pub record Met (p : List ℕ) (c : Counts) (j : ℕ) (marks places : List ℕ) : Type 0 where
-  pub long-marks : length marks ≡ 32768
+  pub long-marks : length marks ≡ 98304
   pub long : length places ≡ 8192
   pub met : (x : ℕ) → getD marks x 0 ≡ lastOf (λ i. eqb (key p c i) x) j
   pub done : (i : ℕ) → i < j → getD places i 0 ≡ earlier p c i
@@ -35,12 +35,12 @@ zero-at zero x = refl
 zero-at (suc n) zero = refl
 zero-at (suc n) (suc x) = zero-at n x
 
-pub met-none : (p : List ℕ) (c : Counts) {marks places : List ℕ} → marks ≡ replicate {A = ℕ} 32768 0 → length places ≡ 8192 → Met p c 0 marks places
+pub met-none : (p : List ℕ) (c : Counts) {marks places : List ℕ} → marks ≡ replicate {A = ℕ} 98304 0 → length places ≡ 8192 → Met p c 0 marks places
 met-none p c e l =
     record {
-      long-marks = ap length e ∙ length-replicate {A = ℕ} 32768 0;
+      long-marks = ap length e ∙ length-replicate {A = ℕ} 98304 0;
       long = l;
-      met = λ x. ap (λ (m : List ℕ). getD m x 0) e ∙ zero-at 32768 x;
+      met = λ x. ap (λ (m : List ℕ). getD m x 0) e ∙ zero-at 98304 x;
       done = λ i h. absurd (omega arith);
     }
 
@@ -79,8 +79,8 @@ met-more {p} {c} {j} {k} {marks} {places} m e small l =
     next : (x : ℕ) → pick (eqb (key p c j) x) j (lastOf (λ i. eqb (key p c i) x) j) ≡ lastOf (λ i. eqb (key p c i) x) (j + 1)
     next x = rw (add-one j) refl
 
-pub met-all : {p : List ℕ} {c : Counts} {j : ℕ} {marks places : List ℕ} → Met p c j marks places → region c ≤ j → Earlier p c places
-met-all m l = record { each = λ i h. m .done i (omega arith) }
+pub met-all : {p : List ℕ} {c : Counts} {j : ℕ} {marks places : List ℕ} → Met p c j marks places → region c ≤ j → Earlier p c places × (length marks ≡ 98304)
+met-all m l = (record { each = λ i h. m .done i (omega arith) }, m .long-marks)
 
 -- ---- a list of pairs
 

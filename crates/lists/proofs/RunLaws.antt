@@ -2,6 +2,7 @@
 --     Filled      its invariant: every entry from k on is right, and so is the last one found
 --     last        at the start only the entry past the last word
 --     more        one entry more
+--     end-most    the end that is stored next is no place past the last word
 --     by-runs     a list of ids is in range exactly if it ends where its run does, or before
 -- Assumes nothing.
 use Prim.Native.Nat.{ℕ, zero, suc, _+_, _-_, _<_, _≤_}
@@ -16,7 +17,7 @@ use lib.Seq.{getD-set-same, getD-set-other}
 use borrow.Author.Tests.{le-leb, lt-leb, leb-true, leb-false}
 use Rattle.laws.specs.Choice.{pick}
 use Rattle.laws.specs.First.{until, all}
-use Rattle.laws.proofs.Choice.{by-eq, by-test}
+use Rattle.laws.proofs.Choice.{by-eq, by-test, pick-all}
 use Rattle.laws.proofs.First.{first-at, first-past, Until, until-is, all-until}
 use Rattle.pack.specs.Lists.{listWord, listLen, listItem}
 use Rattle.pack.specs.declared.counts.Counts.{Counts}
@@ -59,6 +60,12 @@ module _ (p : List ℕ) (c : Counts) (limit : ℕ) (few : c .words ≤ 8184) whe
 
   pub filled : {k end : ℕ} {ends : List ℕ} → k ≤ 0 → Filled p c limit k end ends → Runs p c limit ends
   filled h f = record { each = λ j l. f .right j (omega arith) l }
+
+pub end-most : {p : List ℕ} {c : Counts} {limit k₀ end : ℕ} {ends : List ℕ} → Filled p c limit k₀ end ends → (b : Bool) (k x : ℕ) → k + 1 ≡ k₀ → x ≡ pick b end k → x ≤ c .words
+end-most {p} {c} {limit} {k₀} {end} f b k x e w = rw w (pick-all (λ (u : ℕ). u ≤ c .words) b (omega (arith, f .now-at, u .high)) (omega (arith, f .low)))
+  where
+    u : Until (λ k. ltb (listWord p c k) limit) k₀ (c .words) (runEnd p c limit k₀)
+    u = until-is (λ k. ltb (listWord p c k) limit) k₀ (c .words) (f .low)
 
 -- a list of ids that starts inside the list words
 pub by-runs : (p : List ℕ) (c : Counts) (limit s : ℕ) → s < c .words → leb (s + 1 + listLen p c s) (runEnd p c limit (s + 1)) ≡ idsFit p c limit s

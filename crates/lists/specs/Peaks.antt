@@ -11,12 +11,21 @@ use Rattle.pack.specs.Lists.{listWord}
 use Rattle.pack.specs.declared.counts.Counts.{Counts}
 use Rattle.lists.specs.Limits.{names, wild}
 use Rattle.lists.specs.Lists.{idsFit, slotsFit}
+use Rattle.lists.specs.declared.lists.Items.{Items}
+use Rattle.lists.specs.declared.lists.Items.the-variants.{Ids, Pairs, Variants, Arms}
 
 -- ---- what stands in a leaf: what the item that starts at word j has to stay below a limit with
 
 -- the weight of an item that is in no range
 abbrev pub never : ℕ
-never = 4294967295
+never = 65535
+
+-- what the words of an item may weigh too, so that a limit of arms must not be above it
+abbrev pub Narrow : Items → Type 0
+Narrow (Ids limit) = Unit {0}
+Narrow (Pairs first second) = Unit {0}
+Narrow Variants = Unit {0}
+Narrow (Arms limit) = limit ≤ never
 
 -- (name, start of a list of field types)
 abbrev pub variantWeight : List ℕ → Counts → ℕ → ℕ

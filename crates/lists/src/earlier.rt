@@ -6,30 +6,13 @@ ghost use lib.ListN.{length, replicate};
 ghost use Rattle.laws.specs.Bounded.{Reads};
 ghost use Rattle.lists.specs.Peaks.{key as keyOf, Earlier};
 use crate::limits::NAMES;
+use crate::peaks::Peaks;
 use crate::peaks::region;
 use pack::Counts;
 use pack::list_len;
 
-// Each name that was met has the place that met it last as its stamp, so no mark is ever cleared.
-pub struct Marks {
-    pub cells: [u32; Marks::CAPACITY],
-}
-
-impl Marks {
-    // Two for each name: one for even and one for odd places.
-    pub const CAPACITY: usize = 32768;
-
-    pub fn empty() -> Self
-        ensures { λ r. ⌜ r .cells ≡ replicate 32768 0 ⌝ }
-    {
-        Marks {
-            cells: [0; Marks::CAPACITY],
-        }
-    }
-}
-
 pub struct Places {
-    pub cells: [u32; Places::CAPACITY],
+    pub cells: [u16; Places::CAPACITY],
 }
 
 impl Places {
@@ -51,7 +34,7 @@ fn smaller(x: u32, y: u32) -> u32
     if x < y { x } else { y }
 }
 
-// The mark of the name at word j. What is no name has one mark for all.
+// The mark of the name at word j: two for each name, for even and for odd places. What is no name has one mark for all.
 fn key(pack: &[u8], c: Counts, j: u32) -> u32
     ensures { λ r. ⌜ Reads r (keyOf (now (pack .entry)) c j) 32768 ⌝ }
 {
@@ -59,15 +42,16 @@ fn key(pack: &[u8], c: Counts, j: u32) -> u32
     2 * name + j % 2
 }
 
-// Fills the table, from the first word up.
+// Fills the table, from the first word up. Each name that was met has the place that met it last as its mark.
+// The marks stand in the cells of the tree, before it is filled.
 pub fn fill_earlier(
     pack: &[u8],
     c: Counts,
-    marks: &mut [u32; Marks::CAPACITY],
-    places: &mut [u32; Places::CAPACITY],
+    marks: &mut [u16; Peaks::CAPACITY],
+    places: &mut [u16; Places::CAPACITY],
 )
-    requires { ⌜ (c .words ≤ 8184) × (now marks ≡ replicate 32768 0) × (length (now places) ≡ 8192) ⌝ }
-    ensures { λ r. ⌜ Earlier (now (pack .entry)) c (now (places .exit)) ⌝ }
+    requires { ⌜ (c .words ≤ 8184) × (now marks ≡ replicate 98304 0) × (length (now places) ≡ 8192) ⌝ }
+    ensures { λ r. ⌜ Earlier (now (pack .entry)) c (now (places .exit)) × (length (now (marks .exit)) ≡ 98304) ⌝ }
 {
     let n = region(c);
     let mut j = 0;
@@ -75,7 +59,7 @@ pub fn fill_earlier(
         let mark = key(pack, c, j) as usize;
         let at = j as usize;
         places[at] = marks[mark];
-        marks[mark] = j;
+        marks[mark] = j as u16;
         j += 1;
     }
 }

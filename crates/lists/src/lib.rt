@@ -7,6 +7,7 @@ mod peaks;
 mod runs;
 mod tree;
 mod weights;
+mod wide;
 
 pub use limits::EXPLICITS;
 pub use limits::LITERALS;

@@ -2,7 +2,7 @@
 ghost use mathlib.Core.Path.{_≡_};
 ghost use Prim.Native.Nat.{_+_, _≤_, _<_};
 ghost use Rattle.lists.specs.Lists.{listFits, wordsOf, itemFits, itemsFit};
-ghost use Rattle.lists.specs.Peaks.{Peaks as PeaksOf};
+ghost use Rattle.lists.specs.Peaks.{Peaks as PeaksOf, Narrow};
 ghost use Rattle.laws.specs.First.{all};
 use crate::peaks::Peaks;
 use crate::peaks::items_below;
@@ -57,9 +57,9 @@ pub fn items_fit(
     c: Counts,
     items: Items,
     s: u32,
-    peaks: &[u32; Peaks::CAPACITY],
+    peaks: &[u16; Peaks::CAPACITY],
 ) -> bool
-    requires { ⌜ PeaksOf (now pack) c (now peaks) ⌝ }
+    requires { ⌜ PeaksOf (now pack) c (now peaks) × Narrow items ⌝ }
     ensures { λ r. ⌜ r ≡ itemsFit (now (pack .entry)) c items s ⌝ }
 {
     let n = list_len(pack, c, s);
@@ -77,9 +77,9 @@ fn each_fits(
     items: Items,
     s: u32,
     n: u32,
-    peaks: &[u32; Peaks::CAPACITY],
+    peaks: &[u16; Peaks::CAPACITY],
 ) -> bool
-    requires { ⌜ (s + 1 + wordsOf items n ≤ c .words) × PeaksOf (now pack) c (now peaks) ⌝ }
+    requires { ⌜ (s + 1 + wordsOf items n ≤ c .words) × PeaksOf (now pack) c (now peaks) × Narrow items ⌝ }
     ensures { λ r. ⌜ r ≡ all (itemFits (now (pack .entry)) c items s) 0 n ⌝ }
 {
     match items {

@@ -18,7 +18,7 @@ const NAMED: u32 = 4;
 const RISING: u32 = 5;
 
 // Whether no name of the pairs at s repeats: each stood last before the first of them.
-pub fn names_differ(pack: &[u8], c: Counts, s: u32, peaks: &[u32; Peaks::CAPACITY]) -> bool
+pub fn names_differ(pack: &[u8], c: Counts, s: u32, peaks: &[u16; Peaks::CAPACITY]) -> bool
     requires { ⌜ PeaksOf (now pack) c (now peaks) ⌝ }
     ensures { λ r. ⌜ (Named (now (pack .entry)) c s → r ≡ namesDiffer (now (pack .entry)) c s) ⌝ }
 {
@@ -31,7 +31,7 @@ pub fn names_differ(pack: &[u8], c: Counts, s: u32, peaks: &[u32; Peaks::CAPACIT
 }
 
 // Whether each item of the list at s is below the next.
-pub fn items_rise(pack: &[u8], c: Counts, s: u32, peaks: &[u32; Peaks::CAPACITY]) -> bool
+pub fn items_rise(pack: &[u8], c: Counts, s: u32, peaks: &[u16; Peaks::CAPACITY]) -> bool
     requires { ⌜ PeaksOf (now pack) c (now peaks) ⌝ }
     ensures { λ r. ⌜ (listFits c s (listLen (now (pack .entry)) c s) ≡ true → r ≡ itemsRise (now (pack .entry)) c s) ⌝ }
 {

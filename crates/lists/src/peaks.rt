@@ -11,12 +11,13 @@ use crate::earlier::Places;
 use crate::runs::Runs;
 use crate::weights::larger;
 use crate::weights::weight;
+use crate::wide::wide;
 use laws::both;
 use laws::either;
 use pack::Counts;
 
 pub struct Peaks {
-    pub cells: [u32; Peaks::CAPACITY],
+    pub cells: [u16; Peaks::CAPACITY],
 }
 
 impl Peaks {
@@ -84,10 +85,10 @@ fn leaf_at(
     pack: &[u8],
     c: Counts,
     x: u32,
-    fields: &[u32; Runs::CAPACITY],
-    slots: &[u32; Runs::CAPACITY],
-    earlier: &[u32; Places::CAPACITY],
-) -> u32
+    fields: &[u16; Runs::CAPACITY],
+    slots: &[u16; Runs::CAPACITY],
+    earlier: &[u16; Places::CAPACITY],
+) -> u16
     requires { ⌜ Nested (now pack) c (now fields) (now slots) × Earlier (now pack) c (now earlier) ⌝ }
     ensures { λ r. ⌜ r ≡ leaf (now (pack .entry)) c x ⌝ }
 {
@@ -101,10 +102,10 @@ fn leaf_at(
 fn fill_leaves(
     pack: &[u8],
     c: Counts,
-    fields: &[u32; Runs::CAPACITY],
-    slots: &[u32; Runs::CAPACITY],
-    earlier: &[u32; Places::CAPACITY],
-    cells: &mut [u32; Peaks::CAPACITY],
+    fields: &[u16; Runs::CAPACITY],
+    slots: &[u16; Runs::CAPACITY],
+    earlier: &[u16; Places::CAPACITY],
+    cells: &mut [u16; Peaks::CAPACITY],
 )
     requires { ⌜ Nested (now pack) c (now fields) (now slots) × Earlier (now pack) c (now earlier) × (length (now cells) ≡ 98304) ⌝ }
     ensures { λ r. ⌜ Tips (now (pack .entry)) c (leavesOf c) (now (cells .exit)) ⌝ }
@@ -119,7 +120,7 @@ fn fill_leaves(
 }
 
 // Fills the nodes, from the last down.
-fn fill_nodes(pack: &[u8], c: Counts, cells: &mut [u32; Peaks::CAPACITY])
+fn fill_nodes(pack: &[u8], c: Counts, cells: &mut [u16; Peaks::CAPACITY])
     requires { ⌜ (c .words ≤ 8184) × Tips (now pack) c (leavesOf c) (now cells) ⌝ }
     ensures { λ r. ⌜ PeaksOf (now (pack .entry)) c (now (cells .exit)) ⌝ }
 {
@@ -134,10 +135,10 @@ fn fill_nodes(pack: &[u8], c: Counts, cells: &mut [u32; Peaks::CAPACITY])
 pub fn fill_peaks(
     pack: &[u8],
     c: Counts,
-    fields: &[u32; Runs::CAPACITY],
-    slots: &[u32; Runs::CAPACITY],
-    earlier: &[u32; Places::CAPACITY],
-    cells: &mut [u32; Peaks::CAPACITY],
+    fields: &[u16; Runs::CAPACITY],
+    slots: &[u16; Runs::CAPACITY],
+    earlier: &[u16; Places::CAPACITY],
+    cells: &mut [u16; Peaks::CAPACITY],
 )
     requires { ⌜ Nested (now pack) c (now fields) (now slots) × Earlier (now pack) c (now earlier) × (length (now cells) ≡ 98304) ⌝ }
     ensures { λ r. ⌜ PeaksOf (now (pack .entry)) c (now (cells .exit)) ⌝ }
@@ -147,14 +148,14 @@ pub fn fill_peaks(
 }
 
 // Of the range from l to r: whether each end that is not under one node with its neighbour is below the limit.
-fn edges_below(cells: &[u32; Peaks::CAPACITY], l: u32, r: u32, limit: u32) -> bool
+fn edges_below(cells: &[u16; Peaks::CAPACITY], l: u32, r: u32, limit: u32) -> bool
     requires { ⌜ (l < r) × (r < 98305) ⌝ }
     ensures { λ q. ⌜ q ≡ edgesBelow (now (cells .entry)) l r limit ⌝ }
 {
     let low = l as usize;
     let high = (r - 1) as usize;
-    let first = cells[low];
-    let last = cells[high];
+    let first = wide(cells[low]);
+    let last = wide(cells[high]);
     both(
         either(l % 2 == 0, first < limit),
         either(r % 2 == 0, last < limit),
@@ -162,7 +163,7 @@ fn edges_below(cells: &[u32; Peaks::CAPACITY], l: u32, r: u32, limit: u32) -> bo
 }
 
 // Whether each of n leaves is below the limit. What lies between the ends of a range is judged by the nodes above it.
-fn range_below(c: Counts, cells: &[u32; Peaks::CAPACITY], from: u32, n: u32, limit: u32) -> bool
+fn range_below(c: Counts, cells: &[u16; Peaks::CAPACITY], from: u32, n: u32, limit: u32) -> bool
     requires { ⌜ (c .words ≤ 8184) × Nodes (leavesOf c) 1 (now cells) × (from + n ≤ leavesOf c) ⌝ }
     ensures { λ q. ⌜ q ≡ all (λ x. ltb (getD (now (cells .entry)) x 0) limit) (leavesOf c + from) (leavesOf c + from + n) ⌝ }
 {
@@ -188,7 +189,7 @@ pub fn items_below(
     j: u32,
     n: u32,
     limit: u32,
-    peaks: &[u32; Peaks::CAPACITY],
+    peaks: &[u16; Peaks::CAPACITY],
 ) -> bool
     requires { ⌜ PeaksOf (now pack) c (now peaks) × (form < 6) × (j + strideOf form * n ≤ c .words + 1) ⌝ }
     ensures { λ r. ⌜ r ≡ all (λ k. ltb (weightOf (now (pack .entry)) c form (j + strideOf form * k)) limit) 0 n ⌝ }

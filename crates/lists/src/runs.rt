@@ -5,12 +5,13 @@ ghost use Prim.Native.Nat.{_≤_};
 ghost use lib.ListN.{length, replicate};
 ghost use Rattle.lists.specs.Runs.{Runs as RunsOf};
 ghost use Rattle.lists.specs.Lists.{idsFit};
+use crate::wide::wide;
 use laws::unless;
 use pack::Counts;
 use pack::list_len;
 
 pub struct Runs {
-    pub ends: [u32; Runs::CAPACITY],
+    pub ends: [u16; Runs::CAPACITY],
 }
 
 impl Runs {
@@ -27,7 +28,7 @@ impl Runs {
 }
 
 // Fills the table, from the last word down.
-pub fn fill_runs(pack: &[u8], c: Counts, limit: u32, ends: &mut [u32; Runs::CAPACITY])
+pub fn fill_runs(pack: &[u8], c: Counts, limit: u32, ends: &mut [u16; Runs::CAPACITY])
     requires { ⌜ (c .words ≤ 8184) × (length (now ends) ≡ 8185) ⌝ }
     ensures { λ r. ⌜ RunsOf (now (pack .entry)) c limit (now (ends .exit)) ⌝ }
 {
@@ -35,24 +36,24 @@ pub fn fill_runs(pack: &[u8], c: Counts, limit: u32, ends: &mut [u32; Runs::CAPA
     let mut k = n;
     let mut end = n;
     let last = n as usize;
-    ends[last] = n;
+    ends[last] = n as u16;
     while 0 < k {
         k -= 1;
         end = unless(list_len(pack, c, k) < limit, k, end);
         let at = k as usize;
-        ends[at] = end;
+        ends[at] = end as u16;
     }
 }
 
 // Whether the list at word s is a list of ids below the table's limit.
-pub fn ids_fit(pack: &[u8], c: Counts, limit: u32, s: u32, ends: &[u32; Runs::CAPACITY]) -> bool
+pub fn ids_fit(pack: &[u8], c: Counts, limit: u32, s: u32, ends: &[u16; Runs::CAPACITY]) -> bool
     requires { ⌜ (c .words ≤ 8184) × RunsOf (now pack) c limit (now ends) ⌝ }
     ensures { λ r. ⌜ r ≡ idsFit (now (pack .entry)) c limit s ⌝ }
 {
     let n = c.words;
     if s < n {
         let from = (s as usize) + 1;
-        let end = ends[from];
+        let end = wide(ends[from]);
         s + 1 + list_len(pack, c, s) <= end
     } else {
         false

@@ -1,14 +1,17 @@
--- 14 after 11: what a row in range tells of the names and references that 14 asks of.
+-- 14 after 11: what a row in range tells of the names and references that 14 asks of. No table has more rows than there are expressions in the largest pack.
 -- Assumes nothing.
-use Prim.Native.Nat.{ℕ, _*_, _<_}
+use Prim.Native.Nat.{ℕ, zero, suc, _*_, _<_, _≤_}
 use mathlib.Core.Path.{_≡_, refl}
 use mathlib.Core.Bool.{Bool, true, false, _&&_}
 use mathlib.Core.List.{List}
 use lib.Dec.{ltb}
+use native.Mathlib.Omega.{arith}
 use borrow.Author.Tests.{ltb-true}
 use Rattle.laws.specs.Choice.{pick, byKind}
 use Rattle.laws.proofs.Choice.{and-both}
 use Rattle.laws.proofs.First.{all-each}
+use Rattle.pack.specs.Counts.{inLimits}
+use Rattle.pack.proofs.CountLaws.{limited}
 use Rattle.pack.specs.Lists.{listLen, listItem}
 use Rattle.pack.specs.declared.counts.Counts.{Counts}
 use Rattle.pack.specs.declared.rows.TypeRow.{TypeRow}
@@ -16,10 +19,19 @@ use Rattle.pack.specs.declared.rows.DefinitionRow.{DefinitionRow}
 use Rattle.lists.specs.Limits.{names, variables}
 use Rattle.lists.specs.Lists.{listFits, wordsOf, idsFit, itemFits, itemsFit}
 use Rattle.lists.specs.Names.{Named}
+use Rattle.rows.specs.Tables.{rowsIn}
 use Rattle.rows.specs.Types.{typeInRange, faultOf}
 use Rattle.rows.specs.Definitions.{definitionInRange}
 use Rattle.lists.specs.declared.lists.Items.{Items}
 use Rattle.lists.specs.declared.lists.Items.the-variants.{Ids, Pairs, Variants}
+
+pub rows-most : (c : Counts) (table : ℕ) → inLimits c ≡ true → rowsIn c table ≤ 4096
+rows-most c zero t = omega (arith, limited c t .types)
+rows-most c (suc zero) t = omega (arith, limited c t .definitions)
+rows-most c (suc (suc zero)) t = limited c t .expressions
+rows-most c (suc (suc (suc zero))) t = omega (arith, limited c t .roots)
+rows-most c (suc (suc (suc (suc zero)))) t = omega (arith, limited c t .values)
+rows-most c (suc (suc (suc (suc (suc table))))) t = omega arith
 
 -- the last test counts only where the second one holds
 pub ruled : {known k ranged r q d : Bool} → known ≡ k → ranged ≡ r → (r ≡ true → q ≡ d) → faultOf known ranged q ≡ faultOf k r d

@@ -37,7 +37,7 @@ fn definition_in_range(
     pack: &[u8],
     c: Counts,
     r: DefinitionRow,
-    peaks: &[u32; Peaks::CAPACITY],
+    peaks: &[u16; Peaks::CAPACITY],
 ) -> bool
     requires { ⌜ PeaksOf (now pack) c (now peaks) ⌝ }
     ensures { λ q. ⌜ q ≡ definitionInRange (now (pack .entry)) c r ⌝ }
@@ -56,7 +56,7 @@ fn definition_distinct(
     pack: &[u8],
     c: Counts,
     r: DefinitionRow,
-    peaks: &[u32; Peaks::CAPACITY],
+    peaks: &[u16; Peaks::CAPACITY],
 ) -> bool
     requires { ⌜ PeaksOf (now pack) c (now peaks) ⌝ }
     ensures { λ q. ⌜ (definitionInRange (now (pack .entry)) c r ≡ true → q ≡ definitionDistinct (now (pack .entry)) c r) ⌝ }
@@ -70,7 +70,7 @@ fn definition_distinct(
 }
 
 // The number of the first fault of definition row i, or 0.
-pub fn definition_rule(pack: &[u8], c: Counts, i: u32, peaks: &[u32; Peaks::CAPACITY]) -> u32
+pub fn definition_rule(pack: &[u8], c: Counts, i: u32, peaks: &[u16; Peaks::CAPACITY]) -> u32
     requires { ⌜ PeaksOf (now pack) c (now peaks) ⌝ }
     ensures { λ r. ⌜ r ≡ definitionRule (now (pack .entry)) c i ⌝ }
 {

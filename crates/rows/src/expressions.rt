@@ -1,6 +1,7 @@
 // The expression table: 9 kinds of nodes.
 ghost use mathlib.Core.Path.{_≡_};
-ghost use Rattle.lists.specs.Peaks.{Peaks as PeaksOf};
+ghost use Prim.Native.Nat.{_≤_};
+ghost use Rattle.lists.specs.Peaks.{Peaks as PeaksOf, never};
 ghost use Rattle.rows.specs.Expressions.{unused as unusedOf, expressionKnown, kindKnown, expressionInRange, expressionRule};
 use crate::faults::fault_of;
 use laws::both;
@@ -52,9 +53,9 @@ fn expression_in_range(
     c: Counts,
     e: u32,
     r: ExpressionRow,
-    peaks: &[u32; Peaks::CAPACITY],
+    peaks: &[u16; Peaks::CAPACITY],
 ) -> bool
-    requires { ⌜ PeaksOf (now pack) c (now peaks) ⌝ }
+    requires { ⌜ PeaksOf (now pack) c (now peaks) × (e ≤ never) ⌝ }
     ensures { λ q. ⌜ q ≡ expressionInRange (now (pack .entry)) c e r ⌝ }
 {
     let kind = r.kind;
@@ -79,8 +80,8 @@ fn expression_in_range(
 }
 
 // The number of the first fault of expression row e, or 0.
-pub fn expression_rule(pack: &[u8], c: Counts, e: u32, peaks: &[u32; Peaks::CAPACITY]) -> u32
-    requires { ⌜ PeaksOf (now pack) c (now peaks) ⌝ }
+pub fn expression_rule(pack: &[u8], c: Counts, e: u32, peaks: &[u16; Peaks::CAPACITY]) -> u32
+    requires { ⌜ PeaksOf (now pack) c (now peaks) × (e ≤ never) ⌝ }
     ensures { λ r. ⌜ r ≡ expressionRule (now (pack .entry)) c e ⌝ }
 {
     let row = expression_row(pack, c, e);

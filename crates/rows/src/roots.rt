@@ -12,7 +12,7 @@ use pack::Counts;
 use pack::RootRow;
 use pack::root_row;
 
-fn root_in_range(pack: &[u8], c: Counts, r: RootRow, peaks: &[u32; Peaks::CAPACITY]) -> bool
+fn root_in_range(pack: &[u8], c: Counts, r: RootRow, peaks: &[u16; Peaks::CAPACITY]) -> bool
     requires { ⌜ PeaksOf (now pack) c (now peaks) ⌝ }
     ensures { λ q. ⌜ q ≡ rootInRange (now (pack .entry)) c r ⌝ }
 {
@@ -25,7 +25,7 @@ fn root_in_range(pack: &[u8], c: Counts, r: RootRow, peaks: &[u32; Peaks::CAPACI
 }
 
 // The number of the first fault of root row i, or 0.
-pub fn root_rule(pack: &[u8], c: Counts, i: u32, peaks: &[u32; Peaks::CAPACITY]) -> u32
+pub fn root_rule(pack: &[u8], c: Counts, i: u32, peaks: &[u16; Peaks::CAPACITY]) -> u32
     requires { ⌜ PeaksOf (now pack) c (now peaks) ⌝ }
     ensures { λ r. ⌜ r ≡ rootRule (now (pack .entry)) c i ⌝ }
 {

@@ -1,8 +1,9 @@
 // The five tables in their order, row by row: the first fault, or the counts.
 ghost use mathlib.Core.Path.{_≡_};
 ghost use mathlib.Core.Bool.{true};
+ghost use Prim.Native.Nat.{_≤_};
 ghost use Rattle.pack.specs.Counts.{inLimits};
-ghost use Rattle.lists.specs.Peaks.{Peaks as PeaksOf};
+ghost use Rattle.lists.specs.Peaks.{Peaks as PeaksOf, never};
 ghost use Rattle.rows.specs.Tables.{rowsIn, rowRule, tableOf, rowsOf};
 use crate::definitions::definition_rule;
 use crate::expressions::expression_rule;
@@ -31,8 +32,8 @@ fn rows_in(c: Counts, table: u32) -> u32
 }
 
 // The number of the first fault of row i of a table, or 0.
-fn row_rule(pack: &[u8], c: Counts, table: u32, i: u32, peaks: &[u32; Peaks::CAPACITY]) -> u32
-    requires { ⌜ PeaksOf (now pack) c (now peaks) ⌝ }
+fn row_rule(pack: &[u8], c: Counts, table: u32, i: u32, peaks: &[u16; Peaks::CAPACITY]) -> u32
+    requires { ⌜ PeaksOf (now pack) c (now peaks) × (i ≤ never) ⌝ }
     ensures { λ r. ⌜ r ≡ rowRule (now (pack .entry)) c table i ⌝ }
 {
     match table {
@@ -46,8 +47,8 @@ fn row_rule(pack: &[u8], c: Counts, table: u32, i: u32, peaks: &[u32; Peaks::CAP
 }
 
 // One table.
-fn table_rows(pack: &[u8], c: Counts, table: u32, peaks: &[u32; Peaks::CAPACITY]) -> Reading
-    requires { ⌜ PeaksOf (now pack) c (now peaks) ⌝ }
+fn table_rows(pack: &[u8], c: Counts, table: u32, peaks: &[u16; Peaks::CAPACITY]) -> Reading
+    requires { ⌜ PeaksOf (now pack) c (now peaks) × (inLimits c ≡ true) ⌝ }
     ensures { λ r. ⌜ r ≡ tableOf (now (pack .entry)) c table ⌝ }
 {
     let n = rows_in(c, table);
@@ -63,8 +64,8 @@ fn table_rows(pack: &[u8], c: Counts, table: u32, peaks: &[u32; Peaks::CAPACITY]
 }
 
 // All tables, the first that does not pass being the answer.
-fn all_tables(pack: &[u8], c: Counts, peaks: &[u32; Peaks::CAPACITY]) -> Reading
-    requires { ⌜ PeaksOf (now pack) c (now peaks) ⌝ }
+fn all_tables(pack: &[u8], c: Counts, peaks: &[u16; Peaks::CAPACITY]) -> Reading
+    requires { ⌜ PeaksOf (now pack) c (now peaks) × (inLimits c ≡ true) ⌝ }
     ensures { λ r. ⌜ r ≡ rowsOf (now (pack .entry)) c ⌝ }
 {
     let mut table = 0;

@@ -51,7 +51,7 @@ fn named_fits(
     i: u32,
     a: u32,
     b: u32,
-    peaks: &[u32; Peaks::CAPACITY],
+    peaks: &[u16; Peaks::CAPACITY],
 ) -> bool
     requires { ⌜ PeaksOf (now pack) c (now peaks) ⌝ }
     ensures { λ q. ⌜ q ≡ namedFits (now (pack .entry)) c i a b ⌝ }
@@ -63,7 +63,7 @@ fn named_fits(
     both(both(known, fit), as_many)
 }
 
-fn type_in_range(pack: &[u8], c: Counts, i: u32, r: TypeRow, peaks: &[u32; Peaks::CAPACITY]) -> bool
+fn type_in_range(pack: &[u8], c: Counts, i: u32, r: TypeRow, peaks: &[u16; Peaks::CAPACITY]) -> bool
     requires { ⌜ PeaksOf (now pack) c (now peaks) ⌝ }
     ensures { λ q. ⌜ q ≡ typeInRange (now (pack .entry)) c i r ⌝ }
 {
@@ -88,7 +88,7 @@ fn type_in_range(pack: &[u8], c: Counts, i: u32, r: TypeRow, peaks: &[u32; Peaks
 }
 
 // Asked of a row in range.
-fn type_distinct(pack: &[u8], c: Counts, i: u32, r: TypeRow, peaks: &[u32; Peaks::CAPACITY]) -> bool
+fn type_distinct(pack: &[u8], c: Counts, i: u32, r: TypeRow, peaks: &[u16; Peaks::CAPACITY]) -> bool
     requires { ⌜ PeaksOf (now pack) c (now peaks) ⌝ }
     ensures { λ q. ⌜ (typeInRange (now (pack .entry)) c i r ≡ true → q ≡ typeDistinct (now (pack .entry)) c r) ⌝ }
 {
@@ -101,7 +101,7 @@ fn type_distinct(pack: &[u8], c: Counts, i: u32, r: TypeRow, peaks: &[u32; Peaks
 }
 
 // The number of the first fault of type row i, or 0.
-pub fn type_rule(pack: &[u8], c: Counts, i: u32, peaks: &[u32; Peaks::CAPACITY]) -> u32
+pub fn type_rule(pack: &[u8], c: Counts, i: u32, peaks: &[u16; Peaks::CAPACITY]) -> u32
     requires { ⌜ PeaksOf (now pack) c (now peaks) ⌝ }
     ensures { λ r. ⌜ r ≡ typeRule (now (pack .entry)) c i ⌝ }
 {

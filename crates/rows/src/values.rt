@@ -11,7 +11,7 @@ use pack::Counts;
 use pack::value_row;
 
 // The number of the first fault of value row i, or 0.
-pub fn value_rule(pack: &[u8], c: Counts, i: u32, peaks: &[u32; Peaks::CAPACITY]) -> u32
+pub fn value_rule(pack: &[u8], c: Counts, i: u32, peaks: &[u16; Peaks::CAPACITY]) -> u32
     requires { ⌜ PeaksOf (now pack) c (now peaks) ⌝ }
     ensures { λ r. ⌜ r ≡ valueRule (now (pack .entry)) c i ⌝ }
 {

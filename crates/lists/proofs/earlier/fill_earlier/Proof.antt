@@ -12,4 +12,4 @@ abbrev μ-loop : tie.MeasureT-loop
 μ-loop pack c marks₀ places₀ n j₀ marks places j = n - j
 
 pub fill-earlier-spec : {M : Type 1} → statement M
-fill-earlier-spec = tie.close (tie.spec Inv-loop μ-loop (λ c κs. search needs) (λ c. (omega arith, met-none _ _ (c .before .before .pre .1) (c .before .before .pre .2))) (λ c κs. search needs) (λ c. search needs) (λ c. search needs) (λ c. search needs) (λ c. search needs) (λ c. search needs) (λ c. search needs) (λ c. search needs) (λ c. search needs) (λ c. search needs) (λ c. search needs) (λ c. (omega arith, met-more (c .before .before .before .loop .inv .1) (c .before .key .ensures .same) (c .before .key .ensures .small) (omega (arith, c .before .before .before .before .region .ensures)))) (λ c. met-all (c .before .loop .inv .1) (omega (arith, c .before .before .region .ensures))))
+fill-earlier-spec = tie.close (tie.spec Inv-loop μ-loop (λ c κs. search needs) (λ c. (omega arith, met-none _ _ (c .before .before .pre .1) (c .before .before .pre .2))) (λ c κs. search needs) (λ c. search needs) (λ c. search needs) (λ c. search needs) (λ c. search needs) (λ c. search needs) (λ c. search needs) (λ c. search needs) (λ c. search needs) (λ c. search needs) (λ c. search needs) (λ c. search needs) (λ c. (omega arith, met-more (c .before .before .before .loop .inv .1) (c .before .key .ensures .same) (c .before .key .ensures .small) (omega (arith, c .before .before .before .before .region .ensures)))) (λ c. met-all (c .before .loop .inv .1) (omega (arith, c .before .before .region .ensures))))

@@ -1,3 +1,4 @@
+use Rattle.rows.proofs.RowLaws.{rows-most}
 use Rattle.laws.proofs.First.{RowsLeft, row-goes, row-stops, row-ends}
 use Rattle.pack.specs.Answer.{refuse}
 use Rattle.pack.specs.declared.answer.Reading.the-variants.{Pack}
@@ -17,4 +18,4 @@ abbrev μ-loop : tie.MeasureT-loop
 μ-loop pack c table peaks n i₀ i = n - i
 
 pub table-rows-spec : {M : Type 1} → statement M
-table-rows-spec = tie.close (tie.spec Inv-loop μ-loop (λ c κs. search needs) (λ c. unfold tableOf in (omega arith, record { left = record { says = refl } })) (λ c κs. c .before .before .before .before .pre) (λ c κs. search needs) (λ c. c .refused .ensures ∙ ap (λ (x : ℕ). refuse x (c .before .before .before .before .loop .i) (c .before .before .before .before .before .before .before .args .table)) (c .before .before .row-rule .ensures) ∙ row-stops (c .before .before .before .before .loop .inv .1) (omega arith) (c .before .before .row-rule .ensures) (c .before .if1 .taken)) (λ c. search needs) (λ c. search needs) (λ c. (omega arith, row-goes (c .before .before .before .loop .inv .1) (omega arith) (c .before .row-rule .ensures) (c .if1 .left))) (λ c. row-ends (c .before .loop .inv .1) (omega arith)))
+table-rows-spec = tie.close (tie.spec Inv-loop μ-loop (λ c κs. search needs) (λ c. unfold tableOf in (omega arith, record { left = record { says = refl } })) (λ c κs. (c .before .before .before .before .pre .0, omega (arith, rows-most (c .before .before .before .before .args .c) (c .before .before .before .before .args .table) (c .before .before .before .before .pre .1), c .before .before .rows-in .ensures))) (λ c κs. search needs) (λ c. c .refused .ensures ∙ ap (λ (x : ℕ). refuse x (c .before .before .before .before .loop .i) (c .before .before .before .before .before .before .before .args .table)) (c .before .before .row-rule .ensures) ∙ row-stops (c .before .before .before .before .loop .inv .1) (omega arith) (c .before .before .row-rule .ensures) (c .before .if1 .taken)) (λ c. search needs) (λ c. search needs) (λ c. (omega arith, row-goes (c .before .before .before .loop .inv .1) (omega arith) (c .before .row-rule .ensures) (c .if1 .left))) (λ c. row-ends (c .before .loop .inv .1) (omega arith)))
