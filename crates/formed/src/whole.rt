@@ -27,7 +27,7 @@ const LETS: u32 = 15;
 
 const DEPTH: u32 = 13;
 
-const MAX_DEPTH: u32 = 64;
+const MAX_DEPTH: u8 = 64;
 
 // Whether expression e passes the test of this number.
 fn node_fits(
@@ -35,8 +35,8 @@ fn node_fits(
     c: Counts,
     number: u32,
     e: u32,
-    uses: &[u32; Notes::CAPACITY],
-    places: &[u32; Notes::CAPACITY],
+    uses: &[u8; Notes::CAPACITY],
+    places: &[u8; Notes::CAPACITY],
 ) -> bool
     requires { ⌜ (e < c .expressions) × Ready (now pack) c number (notes (now uses) (now places)) ⌝ }
     ensures { λ r. ⌜ r ≡ nodeFits (now (pack .entry)) c number e ⌝ }
@@ -57,8 +57,8 @@ fn nodes(
     pack: &[u8],
     c: Counts,
     number: u32,
-    uses: &[u32; Notes::CAPACITY],
-    places: &[u32; Notes::CAPACITY],
+    uses: &[u8; Notes::CAPACITY],
+    places: &[u8; Notes::CAPACITY],
 ) -> Reading
     requires { ⌜ Ready (now pack) c number (notes (now uses) (now places)) ⌝ }
     ensures { λ r. ⌜ r ≡ nodesOf (now (pack .entry)) c number ⌝ }
@@ -80,8 +80,8 @@ fn nodes(
 fn placed_well(
     pack: &[u8],
     c: Counts,
-    uses: &[u32; Notes::CAPACITY],
-    places: &[u32; Notes::CAPACITY],
+    uses: &[u8; Notes::CAPACITY],
+    places: &[u8; Notes::CAPACITY],
 ) -> Reading
     requires { ⌜ Ready (now pack) c 15 (notes (now uses) (now places)) × Ready (now pack) c 13 (notes (now uses) (now places)) ⌝ }
     ensures { λ r. ⌜ r ≡ after passes (nodesOf (now (pack .entry)) c 15) (nodesOf (now (pack .entry)) c 13) ⌝ }

@@ -11,7 +11,7 @@ use pack::Counts;
 use pack::list_len;
 
 pub struct Hops {
-    pub cells: [u32; Hops::CAPACITY],
+    pub cells: [u16; Hops::CAPACITY],
 }
 
 impl Hops {
@@ -55,7 +55,7 @@ pub fn item_start(kids: Kids, j: usize, k: u32) -> usize
 }
 
 // How many items from word j on are known to be full.
-fn hop_at(kids: Kids, j: usize, hops: &[u32; Hops::CAPACITY]) -> u32
+fn hop_at(kids: Kids, j: usize, hops: &[u16; Hops::CAPACITY]) -> u16
     ensures { λ r. ⌜ r ≡ hopAt (now (hops .entry)) kids j ⌝ }
 {
     if j < LINE {
@@ -66,7 +66,7 @@ fn hop_at(kids: Kids, j: usize, hops: &[u32; Hops::CAPACITY]) -> u32
     }
 }
 
-fn is_full(k: u32, uses: &[u32; Notes::CAPACITY]) -> bool
+fn is_full(k: u32, uses: &[u8; Notes::CAPACITY]) -> bool
     ensures { λ r. ⌜ r ≡ full (now (uses .entry)) k ⌝ }
 {
     let at = k as usize;
@@ -77,7 +77,7 @@ fn is_full(k: u32, uses: &[u32; Notes::CAPACITY]) -> bool
     }
 }
 
-fn optional_full(stored: u32, uses: &[u32; Notes::CAPACITY]) -> bool
+fn optional_full(stored: u32, uses: &[u8; Notes::CAPACITY]) -> bool
     ensures { λ r. ⌜ r ≡ allFull (now (uses .entry)) (optional stored) ⌝ }
 {
     if stored == 0 {
@@ -88,7 +88,7 @@ fn optional_full(stored: u32, uses: &[u32; Notes::CAPACITY]) -> bool
 }
 
 // Whether the item at word j names only what was named twice.
-fn item_full(pack: &[u8], c: Counts, kids: Kids, j: u32, uses: &[u32; Notes::CAPACITY]) -> bool
+fn item_full(pack: &[u8], c: Counts, kids: Kids, j: u32, uses: &[u8; Notes::CAPACITY]) -> bool
     requires { ⌜ j < 8192 ⌝ }
     ensures { λ r. ⌜ r ≡ allFull (now (uses .entry)) (kidsFrom (now (pack .entry)) c kids j) ⌝ }
 {
@@ -103,7 +103,7 @@ fn item_full(pack: &[u8], c: Counts, kids: Kids, j: u32, uses: &[u32; Notes::CAP
 }
 
 // A run of one item, or none.
-fn one_full(pack: &[u8], c: Counts, kids: Kids, j: usize, uses: &[u32; Notes::CAPACITY]) -> u32
+fn one_full(pack: &[u8], c: Counts, kids: Kids, j: usize, uses: &[u8; Notes::CAPACITY]) -> u32
     ensures { λ r. ⌜ Run (now (pack .entry)) c (now (uses .entry)) kids j r ⌝ }
 {
     if j < LINE {
@@ -120,18 +120,18 @@ pub fn reach(
     c: Counts,
     kids: Kids,
     j: usize,
-    uses: &[u32; Notes::CAPACITY],
-    hops: &[u32; Hops::CAPACITY],
+    uses: &[u8; Notes::CAPACITY],
+    hops: &[u16; Hops::CAPACITY],
 ) -> u32
     requires { ⌜ HopsOf (now pack) c (now uses) (now hops) ⌝ }
     ensures { λ r. ⌜ Run (now (pack .entry)) c (now (uses .entry)) kids j r ⌝ }
 {
-    let known = hop_at(kids, j, hops);
+    let known = hop_at(kids, j, hops) as u32;
     if known == 0 {
         one_full(pack, c, kids, j, uses)
     } else {
         let next = item_start(kids, j, known);
-        known + hop_at(kids, next, hops)
+        known + (hop_at(kids, next, hops) as u32)
     }
 }
 
@@ -142,14 +142,14 @@ pub fn set_hop(
     kids: Kids,
     j: usize,
     n: u32,
-    uses: &[u32; Notes::CAPACITY],
-    hops: &mut [u32; Hops::CAPACITY],
+    uses: &[u8; Notes::CAPACITY],
+    hops: &mut [u16; Hops::CAPACITY],
 )
     requires { ⌜ HopsOf (now pack) c (now uses) (now hops) × Run (now pack) c (now uses) kids j n ⌝ }
     ensures { λ r. ⌜ HopsOf (now (pack .entry)) c (now (uses .entry)) (now (hops .exit)) ⌝ }
 {
     if j < LINE {
         let at = line(kids) + j;
-        hops[at] = n;
+        hops[at] = n as u16;
     }
 }

@@ -16,7 +16,7 @@ use pack::list_item;
 use pack::list_len;
 
 pub struct Notes {
-    pub cells: [u32; Notes::CAPACITY],
+    pub cells: [u8; Notes::CAPACITY],
 }
 
 impl Notes {
@@ -45,9 +45,9 @@ pub enum Kids {
 // One naming.
 pub fn note(
     kid: u32,
-    place: u32,
-    uses: &mut [u32; Notes::CAPACITY],
-    places: &mut [u32; Notes::CAPACITY],
+    place: u8,
+    uses: &mut [u8; Notes::CAPACITY],
+    places: &mut [u8; Notes::CAPACITY],
 )
     ensures { λ r. ⌜ notes (now (uses .exit)) (now (places .exit)) ≡ noteOne kid place (notes (now (uses .entry)) (now (places .entry))) ⌝ }
 {
@@ -64,9 +64,9 @@ pub fn note(
 // What is stored as a child+1, or 0 for none.
 pub fn note_optional(
     stored: u32,
-    place: u32,
-    uses: &mut [u32; Notes::CAPACITY],
-    places: &mut [u32; Notes::CAPACITY],
+    place: u8,
+    uses: &mut [u8; Notes::CAPACITY],
+    places: &mut [u8; Notes::CAPACITY],
 )
     ensures { λ r. ⌜ notes (now (uses .exit)) (now (places .exit)) ≡ noteAll (optional stored) place (notes (now (uses .entry)) (now (places .entry))) ⌝ }
 {
@@ -82,9 +82,9 @@ fn note_item(
     kids: Kids,
     s: u32,
     k: u32,
-    place: u32,
-    uses: &mut [u32; Notes::CAPACITY],
-    places: &mut [u32; Notes::CAPACITY],
+    place: u8,
+    uses: &mut [u8; Notes::CAPACITY],
+    places: &mut [u8; Notes::CAPACITY],
 )
     requires { ⌜ k < 65536 ⌝ }
     ensures { λ r. ⌜ notes (now (uses .exit)) (now (places .exit)) ≡ noteAll (kidsAt (now (pack .entry)) c kids s k) place (notes (now (uses .entry)) (now (places .entry))) ⌝ }
@@ -110,10 +110,10 @@ fn note_some(
     kids: Kids,
     s: u32,
     k: u32,
-    place: u32,
-    uses: &mut [u32; Notes::CAPACITY],
-    places: &mut [u32; Notes::CAPACITY],
-    hops: &mut [u32; Hops::CAPACITY],
+    place: u8,
+    uses: &mut [u8; Notes::CAPACITY],
+    places: &mut [u8; Notes::CAPACITY],
+    hops: &mut [u16; Hops::CAPACITY],
 ) -> u32
     requires { ⌜ (k < 65536) × HopsOf (now pack) c (now uses) (now hops) ⌝ }
     ensures { λ r. ⌜ Passed (now (pack .entry)) c kids s k place (notes (now (uses .entry)) (now (places .entry))) (notes (now (uses .exit)) (now (places .exit))) (now (hops .exit)) r ⌝ }
@@ -135,10 +135,10 @@ pub fn note_list(
     c: Counts,
     kids: Kids,
     s: u32,
-    place: u32,
-    uses: &mut [u32; Notes::CAPACITY],
-    places: &mut [u32; Notes::CAPACITY],
-    hops: &mut [u32; Hops::CAPACITY],
+    place: u8,
+    uses: &mut [u8; Notes::CAPACITY],
+    places: &mut [u8; Notes::CAPACITY],
+    hops: &mut [u16; Hops::CAPACITY],
 )
     requires { ⌜ HopsOf (now pack) c (now uses) (now hops) ⌝ }
     ensures { λ r. ⌜ Noting (notes (now (uses .exit)) (now (places .exit))) (noteAll (gather (kidsAt (now (pack .entry)) c kids s) 0 (listLen (now (pack .entry)) c s)) place (notes (now (uses .entry)) (now (places .entry)))) (now (pack .entry)) c (now (hops .exit)) ⌝ }

@@ -19,7 +19,7 @@ use pack::expression_row;
 use pack::root_row;
 
 // The depth below a place, counted up to 65, one past the deepest that is allowed.
-fn depth_below(place: u32) -> u32
+fn depth_below(place: u8) -> u8
     ensures { λ r. ⌜ r ≡ below place ⌝ }
 {
     let depth = place / 2;
@@ -31,10 +31,10 @@ fn note_statements(
     pack: &[u8],
     c: Counts,
     row: ExpressionRow,
-    place: u32,
-    uses: &mut [u32; Notes::CAPACITY],
-    places: &mut [u32; Notes::CAPACITY],
-    hops: &mut [u32; Hops::CAPACITY],
+    place: u8,
+    uses: &mut [u8; Notes::CAPACITY],
+    places: &mut [u8; Notes::CAPACITY],
+    hops: &mut [u16; Hops::CAPACITY],
 )
     requires { ⌜ HopsOf (now pack) c (now uses) (now hops) ⌝ }
     ensures { λ r. ⌜ Noting (notes (now (uses .exit)) (now (places .exit))) (noteAll (rowStatements (now (pack .entry)) c row) place (notes (now (uses .entry)) (now (places .entry)))) (now (pack .entry)) c (now (hops .exit)) ⌝ }
@@ -49,10 +49,10 @@ fn note_operands(
     pack: &[u8],
     c: Counts,
     row: ExpressionRow,
-    place: u32,
-    uses: &mut [u32; Notes::CAPACITY],
-    places: &mut [u32; Notes::CAPACITY],
-    hops: &mut [u32; Hops::CAPACITY],
+    place: u8,
+    uses: &mut [u8; Notes::CAPACITY],
+    places: &mut [u8; Notes::CAPACITY],
+    hops: &mut [u16; Hops::CAPACITY],
 )
     requires { ⌜ HopsOf (now pack) c (now uses) (now hops) ⌝ }
     ensures { λ r. ⌜ Noting (notes (now (uses .exit)) (now (places .exit))) (noteAll (rowOperands (now (pack .entry)) c row) place (notes (now (uses .entry)) (now (places .entry)))) (now (pack .entry)) c (now (hops .exit)) ⌝ }
@@ -93,10 +93,10 @@ fn note_row(
     pack: &[u8],
     c: Counts,
     row: ExpressionRow,
-    place: u32,
-    uses: &mut [u32; Notes::CAPACITY],
-    places: &mut [u32; Notes::CAPACITY],
-    hops: &mut [u32; Hops::CAPACITY],
+    place: u8,
+    uses: &mut [u8; Notes::CAPACITY],
+    places: &mut [u8; Notes::CAPACITY],
+    hops: &mut [u16; Hops::CAPACITY],
 )
     requires { ⌜ HopsOf (now pack) c (now uses) (now hops) ⌝ }
     ensures { λ r. ⌜ Noting (notes (now (uses .exit)) (now (places .exit))) (noteRow (now (pack .entry)) c row place (notes (now (uses .entry)) (now (places .entry)))) (now (pack .entry)) c (now (hops .exit)) ⌝ }
@@ -110,8 +110,8 @@ fn note_row(
 fn note_bodies(
     pack: &[u8],
     c: Counts,
-    uses: &mut [u32; Notes::CAPACITY],
-    places: &mut [u32; Notes::CAPACITY],
+    uses: &mut [u8; Notes::CAPACITY],
+    places: &mut [u8; Notes::CAPACITY],
 )
     ensures { λ r. ⌜ notes (now (uses .exit)) (now (places .exit)) ≡ noteAll (bodiesOf (now (pack .entry)) c) 2 (notes (now (uses .entry)) (now (places .entry))) ⌝ }
 {
@@ -128,9 +128,9 @@ fn note_bodies(
 pub fn note_pack(
     pack: &[u8],
     c: Counts,
-    uses: &mut [u32; Notes::CAPACITY],
-    places: &mut [u32; Notes::CAPACITY],
-    hops: &mut [u32; Hops::CAPACITY],
+    uses: &mut [u8; Notes::CAPACITY],
+    places: &mut [u8; Notes::CAPACITY],
+    hops: &mut [u16; Hops::CAPACITY],
 )
     requires { ⌜ (c .expressions ≤ 4096) × Clean (now uses) (now places) × (now hops ≡ replicate 24576 0) ⌝ }
     ensures { λ r. ⌜ Noted (now (pack .entry)) c 0 (notes (now (uses .exit)) (now (places .exit))) ⌝ }

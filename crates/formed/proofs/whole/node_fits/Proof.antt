@@ -37,4 +37,4 @@ returns-4 c =
     (deep _ _ (notes (c .before .before .before .before .before .args .uses .now) (c .before .before .before .before .before .args .places .now)) (c .before .before .before .before .before .pre .1 .noted) _ (c .before .before .before .before .before .pre .0) (c .before .before .before .before .before .pre .1 .trees (c .match .rest .0 .1))))
 
 pub node-fits-spec : {M : Type 1} → statement M
-node-fits-spec = tie.close (tie.spec (λ c. search needs) (λ c. search needs) (λ c. search needs) (λ c. search needs) (λ c κs. tt) returns returns-2 returns-3 returns-4)
+node-fits-spec = tie.close (tie.spec (λ c. search needs) (λ c. search needs) (λ c κs. tt) returns returns-2 returns-3 returns-4)
