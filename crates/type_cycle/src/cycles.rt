@@ -8,7 +8,9 @@ ghost use Rattle.pack.specs.Counts.{inLimits};
 ghost use Rattle.rows.specs.Tables.{rowsOf};
 ghost use Rattle.type_cycle.specs.Cycles.{unresolvedOf, cycleOf, typeCyclesOf};
 ghost use Rattle.type_cycle.specs.Order.{Good, Walled, Order, Sought, Smallest};
+use crate::marks::Listing;
 use crate::marks::Marks;
+use crate::marks::left_at;
 use crate::skips::Skips;
 use crate::visits::visit_fields;
 use crate::visits::visit_name;
@@ -21,7 +23,7 @@ const UNRESOLVED: u32 = 40;
 const CYCLE: u32 = 41;
 
 // Every definition gets a mark, so that no search goes past a named type.
-fn wall(marks: &mut [u32; Marks::CAPACITY])
+fn wall(marks: &mut [u8; Marks::CAPACITY])
     requires { ⌜ now marks ≡ replicate 2561 0 ⌝ }
     ensures { λ r. ⌜ Walled 512 (now (marks .exit)) ⌝ }
 {
@@ -39,7 +41,7 @@ fn unresolved(pack: &[u8], c: Counts) -> Reading
 {
     let mut marks = Marks::empty();
     let mut skips = Skips::empty();
-    let mut order = Marks::empty();
+    let mut order = Listing::empty();
     wall(&mut marks.cells);
     let n = c.definitions;
     let mut d = 0;
@@ -63,7 +65,7 @@ fn unresolved(pack: &[u8], c: Counts) -> Reading
 }
 
 // All definitions, in the order in which a search leaves them. Answers how many are listed.
-fn visit_all(pack: &[u8], c: Counts, order: &mut [u32; Marks::CAPACITY]) -> u32
+fn visit_all(pack: &[u8], c: Counts, order: &mut [u16; Listing::CAPACITY]) -> u32
     requires { ⌜ Good (now pack) c × (now order ≡ replicate 2561 0) ⌝ }
     ensures { λ r. ⌜ Order (now (pack .entry)) c (now (order .exit)) r ⌝ }
 {
@@ -82,16 +84,16 @@ fn visit_all(pack: &[u8], c: Counts, order: &mut [u32; Marks::CAPACITY]) -> u32
 // A definition below m that leads to itself, or m where none does.
 // They are asked in the order in which a search left them: what one leads to that does not lead to itself never leads to a later one,
 // so what was met once is not met again.
-fn seek(pack: &[u8], c: Counts, m: u32, n: u32, order: &[u32; Marks::CAPACITY]) -> u32
+fn seek(pack: &[u8], c: Counts, m: u32, n: u32, order: &[u16; Listing::CAPACITY]) -> u32
     requires { ⌜ Good (now pack) c × (m ≤ c .definitions) × Order (now pack) c (now order) n ⌝ }
     ensures { λ r. ⌜ Sought (now (pack .entry)) c m r ⌝ }
 {
     let mut marks = Marks::empty();
     let mut skips = Skips::empty();
-    let mut left = Marks::empty();
+    let mut left = Listing::empty();
     let mut i = 0;
     while i < n {
-        let d = order[i as usize];
+        let d = left_at(order, i as usize);
         if d < m {
             visit_fields(
                 pack,
@@ -115,7 +117,7 @@ fn seek(pack: &[u8], c: Counts, m: u32, n: u32, order: &[u32; Marks::CAPACITY]) 
 }
 
 // The smallest definition that leads to itself, where `found` does: half of those below it are asked at a time.
-fn smallest(pack: &[u8], c: Counts, found: u32, n: u32, order: &[u32; Marks::CAPACITY]) -> u32
+fn smallest(pack: &[u8], c: Counts, found: u32, n: u32, order: &[u16; Listing::CAPACITY]) -> u32
     requires { ⌜ Good (now pack) c × Order (now pack) c (now order) n × (found < c .definitions) × Sought (now pack) c (c .definitions) found ⌝ }
     ensures { λ r. ⌜ Smallest (now (pack .entry)) c r ⌝ }
 {
@@ -138,7 +140,7 @@ fn cycle(pack: &[u8], c: Counts) -> Reading
     requires { ⌜ Good (now pack) c ⌝ }
     ensures { λ r. ⌜ r ≡ cycleOf (now (pack .entry)) c ⌝ }
 {
-    let mut order = Marks::empty();
+    let mut order = Listing::empty();
     let n = visit_all(pack, c, &mut order.cells);
     let found = seek(pack, c, c.definitions, n, &order.cells);
     if found < c.definitions {

@@ -1,11 +1,12 @@
 // What a search has met: a mark for each type, for each definition, and one for an unresolved variable.
 // Beside it the definitions in the order in which the search left them.
 ghost use mathlib.Core.Path.{_≡_};
-ghost use lib.ListN.{replicate};
+ghost use Prim.Native.Nat.{_<_};
+ghost use lib.ListN.{replicate, getD};
 ghost use Rattle.type_cycle.specs.Search.{Pushes};
 
 pub struct Marks {
-    pub cells: [u32; Marks::CAPACITY],
+    pub cells: [u8; Marks::CAPACITY],
 }
 
 impl Marks {
@@ -25,13 +26,46 @@ impl Marks {
     }
 }
 
+// The definitions that were left.
+pub struct Listing {
+    pub cells: [u16; Listing::CAPACITY],
+}
+
+impl Listing {
+    // As many as there are marks.
+    pub const CAPACITY: usize = 2561;
+
+    pub fn empty() -> Self
+        ensures { λ r. ⌜ r .cells ≡ replicate 2561 0 ⌝ }
+    {
+        Listing {
+            cells: [0; Listing::CAPACITY],
+        }
+    }
+}
+
+// The definition that was left after i others.
+pub fn left_at(order: &[u16; Listing::CAPACITY], i: usize) -> u32
+    requires { ⌜ i < 2561 ⌝ }
+    ensures { λ r. ⌜ r ≡ getD (now (order .entry)) i 0 ⌝ }
+{
+    wide(order[i])
+}
+
+fn wide(x: u16) -> u32
+    ensures { λ r. ⌜ r ≡ x ⌝ }
+{
+    x as u32
+}
+
 // The definition that is left now, after n others. Answers how many there are.
-pub fn push(order: &mut [u32; Marks::CAPACITY], n: u32, d: u32) -> u32
+pub fn push(order: &mut [u16; Listing::CAPACITY], n: u32, d: u32) -> u32
+    requires { ⌜ d < 65536 ⌝ }
     ensures { λ r. ⌜ Pushes n d (now (order .entry)) (now (order .exit)) r ⌝ }
 {
     let at = n as usize;
-    if at < Marks::CAPACITY {
-        order[at] = d;
+    if at < Listing::CAPACITY {
+        order[at] = d as u16;
         n + 1
     } else {
         n

@@ -6,7 +6,7 @@ ghost use Rattle.type_cycle.specs.Skips.{wordOf, skipPlace, skipOf, putS
 ghost use Rattle.type_cycle.specs.Search.{Passes};
 
 pub struct Skips {
-    pub cells: [u32; Skips::CAPACITY],
+    pub cells: [u16; Skips::CAPACITY],
 }
 
 impl Skips {
@@ -44,7 +44,7 @@ fn place_of(items: Listed, s: u32, k: u32) -> usize
 }
 
 // How many items from item k of the list at s on were visited before.
-pub fn skip_at(items: Listed, s: u32, k: u32, skips: &[u32; Skips::CAPACITY]) -> u32
+pub fn skip_at(items: Listed, s: u32, k: u32, skips: &[u16; Skips::CAPACITY]) -> u16
     ensures { λ r. ⌜ r ≡ skipOf (now (skips .entry)) items (wordOf items s k) ⌝ }
 {
     let at = place_of(items, s, k);
@@ -52,12 +52,13 @@ pub fn skip_at(items: Listed, s: u32, k: u32, skips: &[u32; Skips::CAPACITY]) ->
 }
 
 // That so many were.
-pub fn set_skip(items: Listed, s: u32, k: u32, n: u32, skips: &mut [u32; Skips::CAPACITY])
+pub fn set_skip(items: Listed, s: u32, k: u32, n: u32, skips: &mut [u16; Skips::CAPACITY])
+    requires { ⌜ n < 65536 ⌝ }
     ensures { λ r. ⌜ now (skips .exit) ≡ putSkip (now (skips .entry)) items (wordOf items s k) n ⌝ }
 {
     let at = place_of(items, s, k);
     if at < Skips::CAPACITY {
-        skips[at] = n;
+        skips[at] = n as u16;
     }
 }
 
@@ -74,7 +75,7 @@ pub fn pass(
     k: u32,
     skip: u32,
     count: u32,
-    skips: &mut [u32; Skips::CAPACITY],
+    skips: &mut [u16; Skips::CAPACITY],
 ) -> u32
     requires { ⌜ (0 < skip) × (k < count) × (count < 65536) × (skip ≡ skipOf (now skips) items (wordOf items s k)) ⌝ }
     ensures { λ r. ⌜ Passes items s k count (now (skips .entry)) (now (skips .exit)) r ⌝ }
@@ -82,7 +83,7 @@ pub fn pass(
     let rest = count - k;
     if skip < rest {
         let next = k + skip;
-        let more = least(skip_at(items, s, next, skips), count - next);
+        let more = least(skip_at(items, s, next, skips) as u32, count - next);
         set_skip(items, s, k, skip + more, skips);
         next + more
     } else {

@@ -6,6 +6,7 @@ ghost use lib.ListN.{length};
 ghost use Rattle.pack.specs.Named.{fieldTypesOf};
 ghost use Rattle.type_cycle.specs.Graph.{atName, rowAhead, itemTypes, listTypes, Within, RowInside};
 ghost use Rattle.type_cycle.specs.Search.{st, Can, MeetsVariable, Visited};
+use crate::marks::Listing;
 use crate::marks::Marks;
 use crate::marks::push;
 use crate::skips::Listed;
@@ -26,9 +27,9 @@ pub fn visit_name(
     c: Counts,
     d: u32,
     n: u32,
-    marks: &mut [u32; Marks::CAPACITY],
-    skips: &mut [u32; Skips::CAPACITY],
-    order: &mut [u32; Marks::CAPACITY],
+    marks: &mut [u8; Marks::CAPACITY],
+    skips: &mut [u16; Skips::CAPACITY],
+    order: &mut [u16; Listing::CAPACITY],
 ) -> u32
     requires { ⌜ (d < c .definitions) × Can (now pack) c (now marks) ⌝ }
     ensures { λ r. ⌜ Visited (now (pack .entry)) c (atName d ∷ []) (st (now (marks .entry)) (now (skips .entry)) (now (order .entry)) n) (st (now (marks .exit)) (now (skips .exit)) (now (order .exit)) r) ⌝ }
@@ -49,9 +50,9 @@ pub fn visit_fields(
     c: Counts,
     d: u32,
     n: u32,
-    marks: &mut [u32; Marks::CAPACITY],
-    skips: &mut [u32; Skips::CAPACITY],
-    order: &mut [u32; Marks::CAPACITY],
+    marks: &mut [u8; Marks::CAPACITY],
+    skips: &mut [u16; Skips::CAPACITY],
+    order: &mut [u16; Listing::CAPACITY],
 ) -> u32
     requires { ⌜ (d < c .definitions) × Can (now pack) c (now marks) ⌝ }
     ensures { λ r. ⌜ Visited (now (pack .entry)) c (fieldTypesOf (now (pack .entry)) c d) (st (now (marks .entry)) (now (skips .entry)) (now (order .entry)) n) (st (now (marks .exit)) (now (skips .exit)) (now (order .exit)) r) ⌝ }
@@ -72,9 +73,9 @@ fn visit_list(
     items: Listed,
     s: u32,
     n: u32,
-    marks: &mut [u32; Marks::CAPACITY],
-    skips: &mut [u32; Skips::CAPACITY],
-    order: &mut [u32; Marks::CAPACITY],
+    marks: &mut [u8; Marks::CAPACITY],
+    skips: &mut [u16; Skips::CAPACITY],
+    order: &mut [u16; Listing::CAPACITY],
 ) -> u32
     requires { ⌜ Within c (listTypes (now pack) c items s) × Can (now pack) c (now marks) ⌝ }
     ensures { λ r. ⌜ Visited (now (pack .entry)) c (listTypes (now (pack .entry)) c items s) (st (now (marks .entry)) (now (skips .entry)) (now (order .entry)) n) (st (now (marks .exit)) (now (skips .exit)) (now (order .exit)) r) ⌝ }
@@ -83,7 +84,7 @@ fn visit_list(
     let mut m = n;
     let mut k = 0;
     while k < count {
-        let skip = skip_at(items, s, k, skips);
+        let skip = skip_at(items, s, k, skips) as u32;
         if skip == 0 {
             m = visit_item(pack, c, items, s, k, m, marks, skips, order);
             set_skip(items, s, k, 1, skips);
@@ -103,9 +104,9 @@ fn visit_item(
     s: u32,
     k: u32,
     n: u32,
-    marks: &mut [u32; Marks::CAPACITY],
-    skips: &mut [u32; Skips::CAPACITY],
-    order: &mut [u32; Marks::CAPACITY],
+    marks: &mut [u8; Marks::CAPACITY],
+    skips: &mut [u16; Skips::CAPACITY],
+    order: &mut [u16; Listing::CAPACITY],
 ) -> u32
     requires { ⌜ (k < 65536) × Within c (itemTypes (now pack) c items s k) × Can (now pack) c (now marks) ⌝ }
     ensures { λ r. ⌜ Visited (now (pack .entry)) c (itemTypes (now (pack .entry)) c items s k) (st (now (marks .entry)) (now (skips .entry)) (now (order .entry)) n) (st (now (marks .exit)) (now (skips .exit)) (now (order .exit)) r) ⌝ }
@@ -136,9 +137,9 @@ fn visit(
     c: Counts,
     t: u32,
     n: u32,
-    marks: &mut [u32; Marks::CAPACITY],
-    skips: &mut [u32; Skips::CAPACITY],
-    order: &mut [u32; Marks::CAPACITY],
+    marks: &mut [u8; Marks::CAPACITY],
+    skips: &mut [u16; Skips::CAPACITY],
+    order: &mut [u16; Listing::CAPACITY],
 ) -> u32
     requires { ⌜ (t < c .types) × Can (now pack) c (now marks) ⌝ }
     ensures { λ r. ⌜ Visited (now (pack .entry)) c (t ∷ []) (st (now (marks .entry)) (now (skips .entry)) (now (order .entry)) n) (st (now (marks .exit)) (now (skips .exit)) (now (order .exit)) r) ⌝ }
@@ -159,9 +160,9 @@ fn visit_row(
     c: Counts,
     row: TypeRow,
     n: u32,
-    marks: &mut [u32; Marks::CAPACITY],
-    skips: &mut [u32; Skips::CAPACITY],
-    order: &mut [u32; Marks::CAPACITY],
+    marks: &mut [u8; Marks::CAPACITY],
+    skips: &mut [u16; Skips::CAPACITY],
+    order: &mut [u16; Listing::CAPACITY],
 ) -> u32
     requires { ⌜ RowInside (now pack) c row × Can (now pack) c (now marks) ⌝ }
     ensures { λ r. ⌜ Visited (now (pack .entry)) c (rowAhead (now (pack .entry)) c row) (st (now (marks .entry)) (now (skips .entry)) (now (order .entry)) n) (st (now (marks .exit)) (now (skips .exit)) (now (order .exit)) r) ⌝ }
@@ -196,7 +197,7 @@ fn visit_row(
 }
 
 // An unresolved variable leads no further.
-fn visit_variable(marks: &mut [u32; Marks::CAPACITY])
+fn visit_variable(marks: &mut [u8; Marks::CAPACITY])
     requires { ⌜ length (now marks) ≡ 2561 ⌝ }
     ensures { λ r. ⌜ MeetsVariable (now (marks .entry)) (now (marks .exit)) ⌝ }
 {

@@ -14,4 +14,4 @@ abbrev μ-loop : tie.MeasureT-loop
 μ-loop marks₀ at₀ marks at = 2560 - at
 
 pub wall-spec : {M : Type 1} → statement M
-wall-spec = tie.close (tie.spec Inv-loop μ-loop (λ c. (omega arith, omega arith, wall-starts 2048 refl (c .pre))) (λ c. search needs) (λ c. search needs) (λ c. search needs) (λ c. search needs) (λ c. (omega arith, omega arith, wall-goes (c .before .loop .at) (c .before .loop .inv .0) (c .loop-test .taken) (c .before .loop .inv .2))) (λ c. let e : c .before .loop .at ≡ 2560 = omega arith in rw e at (c .before .loop .inv .2)))
+wall-spec = tie.close (tie.spec Inv-loop μ-loop (λ c. (omega arith, omega arith, wall-starts 2048 refl (c .pre))) (λ c. search needs) (λ c. search needs) (λ c. search needs) (λ c. (omega arith, omega arith, wall-goes (c .before .loop .at) (c .before .loop .inv .0) (c .loop-test .taken) (c .before .loop .inv .2))) (λ c. let e : c .before .loop .at ≡ 2560 = omega arith in rw e at (c .before .loop .inv .2)))

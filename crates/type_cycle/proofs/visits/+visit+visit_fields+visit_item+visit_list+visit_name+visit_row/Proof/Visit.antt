@@ -37,4 +37,4 @@ module _ (t : ℕ) where
   pub visit-closed : {M : Type 1} → visit-lts.Closed (claims t) (visit-at t) visit.Post M
   visit-closed =
       visit-lts.spec (claims t) (visit-at t) visit.Post
-      (λ c. search needs) element-copy-out-if1 (λ c. search needs) element-write-marks (λ c κs. search needs) visit-row-requires returns returns-2
+      element-copy-out-if1 element-write-marks (λ c κs. search needs) visit-row-requires returns returns-2

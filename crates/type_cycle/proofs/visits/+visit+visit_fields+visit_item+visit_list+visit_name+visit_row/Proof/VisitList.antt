@@ -64,4 +64,4 @@ module _ (t : ℕ) where
   pub visit-list-closed : {M : Type 1} → visit-list-lts.Closed (claims t) (visit-list-at t) visit-list.Post M
   visit-list-closed =
       visit-list-lts.spec (claims t) (visit-list-at t) visit-list.Post Inv-loop μ-loop
-      (λ c κs. search needs) loop-holds (λ c κs. search needs) visit-item-requires (λ c κs. search needs) (λ c. search needs) (λ c. search needs) loop-again pass-requires loop-less-2 loop-again-2 returns
+      (λ c κs. search needs) loop-holds (λ c κs. search needs) (λ c. search needs) visit-item-requires (λ c κs. search needs) (λ c. search needs) (λ c. search needs) loop-again pass-requires loop-less-2 loop-again-2 returns

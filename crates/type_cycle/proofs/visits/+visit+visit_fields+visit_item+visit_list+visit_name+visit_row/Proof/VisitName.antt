@@ -29,6 +29,9 @@ module _ (t : ℕ) where
   visit-fields-requires : visit-name-lts.Need-visit-fields-requires (claims t) (visit-name-at t) visit-name.Post
   visit-fields-requires c κs = (omega (arith, c .before .before .before .before .before .before .pre .0, mark-falls (c .before .before .before .before .before .before .pre .1 .1) (atName (c .before .before .before .before .before .before .args .d)) (omega (arith, c .before .before .before .before .before .before .pre .1 .1 .ready .few-definitions)) (c .before .before .before .if1 .taken)), (c .before .before .before .before .before .before .pre .1 .0, mark-can (c .before .before .before .before .before .before .pre .1 .1) _))
 
+  push-requires : visit-name-lts.Need-push-requires (claims t) (visit-name-at t) visit-name.Post
+  push-requires c κs = omega (arith, c .before .before .before .before .before .before .before .before .pre .1 .1 .ready .few-definitions)
+
   returns : visit-name-lts.Need-returns (claims t) (visit-name-at t) visit-name.Post
   returns c = leaves-name _ _ (omega (arith, c .before .before .before .before .before .before .before .before .before .pre .1 .1 .ready .few-definitions)) (c .before .before .before .before .before .before .if1 .taken) (omega (arith, c .before .before .before .before .before .before .before .before .before .pre .1 .1 .ready .few-definitions, c .before .before .before .before .before .before .before .before .before .pre .1 .1 .long)) (c .before .before .visit-fields .ensures) (c .push .ensures)
 
@@ -38,4 +41,4 @@ module _ (t : ℕ) where
   pub visit-name-closed : {M : Type 1} → visit-name-lts.Closed (claims t) (visit-name-at t) visit-name.Post M
   visit-name-closed =
       visit-name-lts.spec (claims t) (visit-name-at t) visit-name.Post
-      (λ c. search needs) (λ c. search needs) element-copy-out-if1 (λ c. search needs) element-write-marks visit-fields-requires (λ c κs. search needs) returns returns-2
+      (λ c. search needs) element-copy-out-if1 element-write-marks visit-fields-requires push-requires returns returns-2
