@@ -1,14 +1,15 @@
 -- What a definition, a type's row and a list's item lead to, in the words of the code that visits them.
 -- Assumes nothing.
 use Prim.Native.Nat.{ℕ, _+_, _*_, _-_, _<_, _≤_}
-use mathlib.Core.Path.{_≡_, refl, ap, _∙_}
+use mathlib.Core.Path.{_≡_, refl, sym, ap, _∙_}
+use mathlib.Core.Bool.{Bool, true, false}
 use mathlib.Core.List.{List, [], _∷_}
 use native.Mathlib.Omega.{arith}
 use lib.ListN.{length, getD, set, length-set}
 use borrow.Author.Tests.{lt-ltb, le-ltb}
 use Rattle.laws.specs.Choice.{pick, byKind}
 use Rattle.laws.specs.Lists.{count, gather}
-use Rattle.laws.proofs.Choice.{yes, no, NoneOf, past-kinds}
+use Rattle.laws.proofs.Choice.{yes, no, fails, NoneOf, past-kinds}
 use Rattle.laws.proofs.Lists.{in-gather}
 use Rattle.pack.specs.Lists.{listLen, listItem}
 use Rattle.pack.specs.Rows.{typeRow, definitionRow}
@@ -19,6 +20,7 @@ use Rattle.pack.specs.declared.rows.DefinitionRow.{DefinitionRow}
 use Rattle.type_cycle.specs.declared.skips.Listed.{Listed}
 use Rattle.type_cycle.specs.declared.skips.Listed.the-variants.{Types, Fields, Variants}
 use Rattle.type_cycle.specs.Graph.{atName, unresolved, places, rowAhead, ahead, itemTypes, listTypes, Within}
+use Rattle.type_cycle.specs.Skips.{wordIn, isVariants}
 use Rattle.type_cycle.specs.Search.{State, st, Pushes, Can, Visited}
 use Rattle.type_cycle.proofs.VisitLaws.{in-first, one-less, marked, enters, leaves}
 
@@ -118,25 +120,33 @@ visited-can k v = record { ready = k .ready; long = v .long ∙ k .long }
 
 -- ---- items
 
-module _ (p : List ℕ) (c : Counts) (items : Listed) (s k : ℕ) {r : ℕ} where
-  pub type-inside : items ≡ Types → r ≡ listItem p c s k → Within c (itemTypes p c items s k) → r < c .types
-  type-inside e q w = (rw e at w) .below r (rw q (in-first (listItem p c s k) []))
+pub variants-only : (items : Listed) {b : Bool} → b ≡ isVariants items → b ≡ true → items ≡ Variants
+variants-only Types e t = absurd (fails (sym t ∙ e))
+variants-only Fields e t = absurd (fails (sym t ∙ e))
+variants-only Variants e t = refl
 
-  pub field-inside : items ≡ Fields → r ≡ listItem p c s (2 * k + 1) → Within c (itemTypes p c items s k) → r < c .types
-  field-inside e q w = (rw e at w) .below r (rw q (in-first (listItem p c s (2 * k + 1)) []))
+-- r is the word of item k: where a list starts, or a type
+module _ (p : List ℕ) (c : Counts) (s k : ℕ) {r w : ℕ} {b : Bool} where
+  pub variant-inside : (items : Listed) → b ≡ isVariants items → b ≡ true → w ≡ wordIn items k → r ≡ listItem p c s w → Within c (itemTypes p c items s k) → Within c (listTypes p c Types r)
+  variant-inside Types e t h q i = absurd (fails (sym t ∙ e))
+  variant-inside Fields e t h q i = absurd (fails (sym t ∙ e))
+  variant-inside Variants e t h q i = rw (q, h, items-types p c (listItem p c s (2 * k + 1))) i
 
-  pub variant-inside : items ≡ Variants → r ≡ listItem p c s (2 * k + 1) → Within c (itemTypes p c items s k) → Within c (listTypes p c Types r)
-  variant-inside e q w = rw (q, items-types p c (listItem p c s (2 * k + 1))) (rw e at w)
+  pub type-inside : (items : Listed) → b ≡ isVariants items → b ≡ false → w ≡ wordIn items k → r ≡ listItem p c s w → Within c (itemTypes p c items s k) → r < c .types
+  type-inside Types e f h q i = i .below r (rw (q, h) (in-first (listItem p c s k) []))
+  type-inside Fields e f h q i = i .below r (rw (q, h) (in-first (listItem p c s (2 * k + 1)) []))
+  type-inside Variants e f h q i = absurd (fails (sym e ∙ f))
 
-  module _ {a b : State} where
-    pub visits-type : items ≡ Types → r ≡ listItem p c s k → Visited p c (r ∷ []) a b → Visited p c (itemTypes p c items s k) a b
-    visits-type e q v = rw (e, ← q) v
+  module _ {x y : State} where
+    pub visits-variant : (items : Listed) → b ≡ isVariants items → b ≡ true → w ≡ wordIn items k → r ≡ listItem p c s w → Visited p c (listTypes p c Types r) x y → Visited p c (itemTypes p c items s k) x y
+    visits-variant Types e t h q v = absurd (fails (sym t ∙ e))
+    visits-variant Fields e t h q v = absurd (fails (sym t ∙ e))
+    visits-variant Variants e t h q v = rw (← h, ← q) (rw (items-types p c r) at v)
 
-    pub visits-field : items ≡ Fields → r ≡ listItem p c s (2 * k + 1) → Visited p c (r ∷ []) a b → Visited p c (itemTypes p c items s k) a b
-    visits-field e q v = rw (e, ← q) v
-
-    pub visits-variant : items ≡ Variants → r ≡ listItem p c s (2 * k + 1) → Visited p c (listTypes p c Types r) a b → Visited p c (itemTypes p c items s k) a b
-    visits-variant e q v = rw (e, ← q) (rw (items-types p c r) at v)
+    pub visits-type : (items : Listed) → b ≡ isVariants items → b ≡ false → w ≡ wordIn items k → r ≡ listItem p c s w → Visited p c (r ∷ []) x y → Visited p c (itemTypes p c items s k) x y
+    visits-type Types e f h q v = rw (← h, ← q) v
+    visits-type Fields e f h q v = rw (← h, ← q) v
+    visits-type Variants e f h q v = absurd (fails (sym e ∙ f))
 
 -- all items
 pub whole-list : (p : List ℕ) (c : Counts) (items : Listed) (s k n : ℕ) {a b : State} → n ≡ listLen p c s → k ≤ n → n ≤ k → Visited p c (gather (itemTypes p c items s) 0 k) a b → Visited p c (listTypes p c items s) a b

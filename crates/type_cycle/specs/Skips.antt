@@ -1,6 +1,7 @@
 -- How many items from a list word on were visited before. A word can be read as a type, as a field's type or as the start of a variant's list:
 -- it has a skip for each.
 use Prim.Native.Nat.{ℕ, _+_, _*_}
+use mathlib.Core.Bool.{Bool, true, false}
 use mathlib.Core.List.{List, [], _∷_}
 use Rattle.laws.specs.Bounded.{get, put}
 use Rattle.pack.specs.Lists.{listWord}
@@ -14,6 +15,18 @@ abbrev pub wordOf : Listed → ℕ → ℕ → ℕ
 wordOf Types s k = s + 1 + k
 wordOf Fields s k = s + 2 + 2 * k
 wordOf Variants s k = s + 2 + 2 * k
+
+-- the same word, counted from the list's first
+abbrev pub wordIn : Listed → ℕ → ℕ
+wordIn Types k = k
+wordIn Fields k = 2 * k + 1
+wordIn Variants k = 2 * k + 1
+
+-- a word that is where a list starts
+abbrev pub isVariants : Listed → Bool
+isVariants Types = false
+isVariants Fields = false
+isVariants Variants = true
 
 -- from an item's word to the next
 abbrev pub stride : Listed → ℕ

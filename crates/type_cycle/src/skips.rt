@@ -2,7 +2,7 @@
 ghost use mathlib.Core.Path.{_≡_};
 ghost use Prim.Native.Nat.{_<_, min};
 ghost use lib.ListN.{replicate};
-ghost use Rattle.type_cycle.specs.Skips.{wordOf, skipPlace, skipOf, putSkip};
+ghost use Rattle.type_cycle.specs.Skips.{wordOf, wordIn, isVariants, skipPlace, skipOf, putSkip};
 ghost use Rattle.type_cycle.specs.Search.{Passes};
 
 pub struct Skips {
@@ -30,6 +30,29 @@ pub enum Listed {
     Fields,
     // A name, and where a list of types starts.
     Variants,
+}
+
+// Which word of a list tells what item k is, counted from its first item.
+pub fn word_in(items: Listed, k: u32) -> u32
+    requires { ⌜ k < 65536 ⌝ }
+    ensures { λ r. ⌜ r ≡ wordIn items k ⌝ }
+{
+    match items {
+        Listed::Types => k,
+        Listed::Fields => 2 * k + 1,
+        Listed::Variants => 2 * k + 1,
+    }
+}
+
+// Whether such a word is where a list starts.
+pub fn is_variants(items: Listed) -> bool
+    ensures { λ r. ⌜ r ≡ isVariants items ⌝ }
+{
+    match items {
+        Listed::Types => false,
+        Listed::Fields => false,
+        Listed::Variants => true,
+    }
 }
 
 // Where the skip of item k of the list at s stands.

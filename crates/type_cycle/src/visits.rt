@@ -11,9 +11,11 @@ use crate::marks::Marks;
 use crate::marks::push;
 use crate::skips::Listed;
 use crate::skips::Skips;
+use crate::skips::is_variants;
 use crate::skips::pass;
 use crate::skips::set_skip;
 use crate::skips::skip_at;
+use crate::skips::word_in;
 use pack::Counts;
 use pack::TypeRow;
 use pack::definition_row;
@@ -96,7 +98,7 @@ fn visit_list(
     m
 }
 
-// What item k names.
+// What item k names. A type is visited from here alone, so that a record in a record takes one frame of the stack.
 fn visit_item(
     pack: &[u8],
     c: Counts,
@@ -111,23 +113,11 @@ fn visit_item(
     requires { ⌜ (k < 65536) × Within c (itemTypes (now pack) c items s k) × Can (now pack) c (now marks) ⌝ }
     ensures { λ r. ⌜ Visited (now (pack .entry)) c (itemTypes (now (pack .entry)) c items s k) (st (now (marks .entry)) (now (skips .entry)) (now (order .entry)) n) (st (now (marks .exit)) (now (skips .exit)) (now (order .exit)) r) ⌝ }
 {
-    match items {
-        Listed::Types => visit(pack, c, list_item(pack, c, s, k), n, marks, skips, order),
-        Listed::Fields => {
-            visit(
-                pack,
-                c,
-                list_item(pack, c, s, 2 * k + 1),
-                n,
-                marks,
-                skips,
-                order,
-            )
-        }
-        Listed::Variants => {
-            let types = list_item(pack, c, s, 2 * k + 1);
-            visit_list(pack, c, Listed::Types, types, n, marks, skips, order)
-        }
+    let t = list_item(pack, c, s, word_in(items, k));
+    if is_variants(items) {
+        visit_list(pack, c, Listed::Types, t, n, marks, skips, order)
+    } else {
+        visit(pack, c, t, n, marks, skips, order)
     }
 }
 
