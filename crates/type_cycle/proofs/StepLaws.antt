@@ -152,3 +152,16 @@ module _ (p : List ℕ) (c : Counts) (s k : ℕ) {r w : ℕ} {b : Bool} where
 pub whole-list : (p : List ℕ) (c : Counts) (items : Listed) (s k n : ℕ) {a b : State} → n ≡ listLen p c s → k ≤ n → n ≤ k → Visited p c (gather (itemTypes p c items s) 0 k) a b → Visited p c (listTypes p c items s) a b
 unfolding listTypes
 whole-list p c items s k n e l h v = let z : k ≡ listLen p c s = omega arith in rw z at v
+
+-- ---- counts that were lent
+
+module _ {p : List ℕ} {c lent : Counts} (e : lent ≡ c) where
+  pub counted : {marks : List ℕ} (d : ℕ) → d < c .definitions → Can p c marks → (d < lent .definitions) × Can p lent marks
+  counted d l k = rw e (l, k)
+
+  module _ {s t : State} where
+    pub counted-name : (d : ℕ) → Visited p lent (atName d ∷ []) s t → Visited p c (atName d ∷ []) s t
+    counted-name d v = rw e at v
+
+    pub counted-fields : (d : ℕ) → Visited p lent (fieldTypesOf p lent d) s t → Visited p c (fieldTypesOf p c d) s t
+    counted-fields d v = rw e at v

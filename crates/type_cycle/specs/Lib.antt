@@ -1,3 +1,4 @@
+pub mod Sizes
 pub mod Leads
 pub mod Cycles
 pub mod Walks

@@ -11,9 +11,9 @@ ghost use Rattle.type_cycle.specs.Order.{Good, Walled, Order, Sought, Sm
 use crate::marks::Listing;
 use crate::marks::Marks;
 use crate::marks::left_at;
+use crate::searches::search_fields;
+use crate::searches::search_name;
 use crate::skips::Skips;
-use crate::visits::visit_fields;
-use crate::visits::visit_name;
 use pack::Counts;
 use pack::Reading;
 use pack::refused;
@@ -46,7 +46,7 @@ fn unresolved(pack: &[u8], c: Counts) -> Reading
     let n = c.definitions;
     let mut d = 0;
     while d < n {
-        visit_fields(
+        search_fields(
             pack,
             c,
             d,
@@ -75,7 +75,7 @@ fn visit_all(pack: &[u8], c: Counts, order: &mut [u16; Listing::CAPACITY]) -> u3
     let mut n = 0;
     let mut d = 0;
     while d < names {
-        n = visit_name(pack, c, d, n, &mut marks.cells, &mut skips.cells, order);
+        n = search_name(pack, c, d, n, &mut marks.cells, &mut skips.cells, order);
         d += 1;
     }
     n
@@ -95,7 +95,7 @@ fn seek(pack: &[u8], c: Counts, m: u32, n: u32, order: &[u16; Listing::CAPACITY]
     while i < n {
         let d = left_at(order, i as usize);
         if d < m {
-            visit_fields(
+            search_fields(
                 pack,
                 c,
                 d,

@@ -5,10 +5,15 @@ ghost use mathlib.Core.List.{[], _∷_};
 ghost use lib.ListN.{length};
 ghost use Rattle.pack.specs.Named.{fieldTypesOf};
 ghost use Rattle.type_cycle.specs.Graph.{atName, rowAhead, itemTypes, listTypes, Within, RowInside};
+ghost use Rattle.type_cycle.specs.Sizes.{countsIn};
 ghost use Rattle.type_cycle.specs.Search.{st, Can, MeetsVariable, Visited};
 use crate::marks::Listing;
 use crate::marks::Marks;
 use crate::marks::push;
+use crate::sizes::Sizes;
+use crate::sizes::definition_of;
+use crate::sizes::item_of;
+use crate::sizes::length_of;
 use crate::skips::Listed;
 use crate::skips::Skips;
 use crate::skips::is_variants;
@@ -16,25 +21,21 @@ use crate::skips::pass;
 use crate::skips::set_skip;
 use crate::skips::skip_at;
 use crate::skips::word_in;
-use pack::Counts;
 use pack::TypeRow;
-use pack::definition_row;
-use pack::list_item;
-use pack::list_len;
 use pack::type_row;
 
 // A definition: its fields, once. It is listed when it is left. n are listed before; answers how many are afterwards.
 pub fn visit_name(
     pack: &[u8],
-    c: Counts,
+    c: &[u32; Sizes::CAPACITY],
     d: u32,
     n: u32,
     marks: &mut [u8; Marks::CAPACITY],
     skips: &mut [u16; Skips::CAPACITY],
     order: &mut [u16; Listing::CAPACITY],
 ) -> u32
-    requires { ⌜ (d < c .definitions) × Can (now pack) c (now marks) ⌝ }
-    ensures { λ r. ⌜ Visited (now (pack .entry)) c (atName d ∷ []) (st (now (marks .entry)) (now (skips .entry)) (now (order .entry)) n) (st (now (marks .exit)) (now (skips .exit)) (now (order .exit)) r) ⌝ }
+    requires { ⌜ (d < countsIn (now c) .definitions) × Can (now pack) (countsIn (now c)) (now marks) ⌝ }
+    ensures { λ r. ⌜ Visited (now (pack .entry)) (countsIn (now (c .entry))) (atName d ∷ []) (st (now (marks .entry)) (now (skips .entry)) (now (order .entry)) n) (st (now (marks .exit)) (now (skips .exit)) (now (order .exit)) r) ⌝ }
 {
     let at = Marks::NAMES + (d as usize);
     if marks[at] == 0 {
@@ -49,17 +50,17 @@ pub fn visit_name(
 // The types of a definition's fields. Runtime and list definitions have none.
 pub fn visit_fields(
     pack: &[u8],
-    c: Counts,
+    c: &[u32; Sizes::CAPACITY],
     d: u32,
     n: u32,
     marks: &mut [u8; Marks::CAPACITY],
     skips: &mut [u16; Skips::CAPACITY],
     order: &mut [u16; Listing::CAPACITY],
 ) -> u32
-    requires { ⌜ (d < c .definitions) × Can (now pack) c (now marks) ⌝ }
-    ensures { λ r. ⌜ Visited (now (pack .entry)) c (fieldTypesOf (now (pack .entry)) c d) (st (now (marks .entry)) (now (skips .entry)) (now (order .entry)) n) (st (now (marks .exit)) (now (skips .exit)) (now (order .exit)) r) ⌝ }
+    requires { ⌜ (d < countsIn (now c) .definitions) × Can (now pack) (countsIn (now c)) (now marks) ⌝ }
+    ensures { λ r. ⌜ Visited (now (pack .entry)) (countsIn (now (c .entry))) (fieldTypesOf (now (pack .entry)) (countsIn (now (c .entry))) d) (st (now (marks .entry)) (now (skips .entry)) (now (order .entry)) n) (st (now (marks .exit)) (now (skips .exit)) (now (order .exit)) r) ⌝ }
 {
-    let row = definition_row(pack, c, d);
+    let row = definition_of(pack, c, d);
     let kind = row.kind;
     match kind {
         0 => visit_list(pack, c, Listed::Variants, row.list, n, marks, skips, order),
@@ -71,7 +72,7 @@ pub fn visit_fields(
 // What the items of the list at s name, in their order.
 fn visit_list(
     pack: &[u8],
-    c: Counts,
+    c: &[u32; Sizes::CAPACITY],
     items: Listed,
     s: u32,
     n: u32,
@@ -79,10 +80,10 @@ fn visit_list(
     skips: &mut [u16; Skips::CAPACITY],
     order: &mut [u16; Listing::CAPACITY],
 ) -> u32
-    requires { ⌜ Within c (listTypes (now pack) c items s) × Can (now pack) c (now marks) ⌝ }
-    ensures { λ r. ⌜ Visited (now (pack .entry)) c (listTypes (now (pack .entry)) c items s) (st (now (marks .entry)) (now (skips .entry)) (now (order .entry)) n) (st (now (marks .exit)) (now (skips .exit)) (now (order .exit)) r) ⌝ }
+    requires { ⌜ Within (countsIn (now c)) (listTypes (now pack) (countsIn (now c)) items s) × Can (now pack) (countsIn (now c)) (now marks) ⌝ }
+    ensures { λ r. ⌜ Visited (now (pack .entry)) (countsIn (now (c .entry))) (listTypes (now (pack .entry)) (countsIn (now (c .entry))) items s) (st (now (marks .entry)) (now (skips .entry)) (now (order .entry)) n) (st (now (marks .exit)) (now (skips .exit)) (now (order .exit)) r) ⌝ }
 {
-    let count = list_len(pack, c, s);
+    let count = length_of(pack, c, s);
     let mut m = n;
     let mut k = 0;
     while k < count {
@@ -101,7 +102,7 @@ fn visit_list(
 // What item k names. A type is visited from here alone, so that a record in a record takes one frame of the stack.
 fn visit_item(
     pack: &[u8],
-    c: Counts,
+    c: &[u32; Sizes::CAPACITY],
     items: Listed,
     s: u32,
     k: u32,
@@ -110,10 +111,10 @@ fn visit_item(
     skips: &mut [u16; Skips::CAPACITY],
     order: &mut [u16; Listing::CAPACITY],
 ) -> u32
-    requires { ⌜ (k < 65536) × Within c (itemTypes (now pack) c items s k) × Can (now pack) c (now marks) ⌝ }
-    ensures { λ r. ⌜ Visited (now (pack .entry)) c (itemTypes (now (pack .entry)) c items s k) (st (now (marks .entry)) (now (skips .entry)) (now (order .entry)) n) (st (now (marks .exit)) (now (skips .exit)) (now (order .exit)) r) ⌝ }
+    requires { ⌜ (k < 65536) × Within (countsIn (now c)) (itemTypes (now pack) (countsIn (now c)) items s k) × Can (now pack) (countsIn (now c)) (now marks) ⌝ }
+    ensures { λ r. ⌜ Visited (now (pack .entry)) (countsIn (now (c .entry))) (itemTypes (now (pack .entry)) (countsIn (now (c .entry))) items s k) (st (now (marks .entry)) (now (skips .entry)) (now (order .entry)) n) (st (now (marks .exit)) (now (skips .exit)) (now (order .exit)) r) ⌝ }
 {
-    let t = list_item(pack, c, s, word_in(items, k));
+    let t = item_of(pack, c, s, word_in(items, k));
     if is_variants(items) {
         visit_list(pack, c, Listed::Types, t, n, marks, skips, order)
     } else {
@@ -124,15 +125,15 @@ fn visit_item(
 // A type, once.
 fn visit(
     pack: &[u8],
-    c: Counts,
+    c: &[u32; Sizes::CAPACITY],
     t: u32,
     n: u32,
     marks: &mut [u8; Marks::CAPACITY],
     skips: &mut [u16; Skips::CAPACITY],
     order: &mut [u16; Listing::CAPACITY],
 ) -> u32
-    requires { ⌜ (t < c .types) × Can (now pack) c (now marks) ⌝ }
-    ensures { λ r. ⌜ Visited (now (pack .entry)) c (t ∷ []) (st (now (marks .entry)) (now (skips .entry)) (now (order .entry)) n) (st (now (marks .exit)) (now (skips .exit)) (now (order .exit)) r) ⌝ }
+    requires { ⌜ (t < countsIn (now c) .types) × Can (now pack) (countsIn (now c)) (now marks) ⌝ }
+    ensures { λ r. ⌜ Visited (now (pack .entry)) (countsIn (now (c .entry))) (t ∷ []) (st (now (marks .entry)) (now (skips .entry)) (now (order .entry)) n) (st (now (marks .exit)) (now (skips .exit)) (now (order .exit)) r) ⌝ }
 {
     let at = t as usize;
     if marks[at] == 0 {
@@ -147,15 +148,15 @@ fn visit(
 // What a type's row leads to: a named type to its definition, a record to its parts, a variable to the mark that says so.
 fn visit_row(
     pack: &[u8],
-    c: Counts,
+    c: &[u32; Sizes::CAPACITY],
     row: TypeRow,
     n: u32,
     marks: &mut [u8; Marks::CAPACITY],
     skips: &mut [u16; Skips::CAPACITY],
     order: &mut [u16; Listing::CAPACITY],
 ) -> u32
-    requires { ⌜ RowInside (now pack) c row × Can (now pack) c (now marks) ⌝ }
-    ensures { λ r. ⌜ Visited (now (pack .entry)) c (rowAhead (now (pack .entry)) c row) (st (now (marks .entry)) (now (skips .entry)) (now (order .entry)) n) (st (now (marks .exit)) (now (skips .exit)) (now (order .exit)) r) ⌝ }
+    requires { ⌜ RowInside (now pack) (countsIn (now c)) row × Can (now pack) (countsIn (now c)) (now marks) ⌝ }
+    ensures { λ r. ⌜ Visited (now (pack .entry)) (countsIn (now (c .entry))) (rowAhead (now (pack .entry)) (countsIn (now (c .entry))) row) (st (now (marks .entry)) (now (skips .entry)) (now (order .entry)) n) (st (now (marks .exit)) (now (skips .exit)) (now (order .exit)) r) ⌝ }
 {
     let kind = row.kind;
     match kind {

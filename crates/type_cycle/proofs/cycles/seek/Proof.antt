@@ -14,4 +14,4 @@ abbrev μ-loop : tie.MeasureT-loop
 μ-loop pack c m n order marks₀ skips₀ left₀ i₀ marks skips left i = n - i
 
 pub seek-spec : {M : Type 1} → statement M
-seek-spec = tie.close (tie.spec Inv-loop μ-loop (λ c κs. tt) (λ c κs. tt) (λ c κs. tt) (λ c. seek-starts _ _ (c .before .before .before .before .pre .0) (c .before .before .empty .ensures) (c .before .empty2 .ensures)) (λ c. search needs) (λ c κs. omega (arith, c .before .before .before .before .before .before .pre .2 .few)) (λ c κs. (omega (arith, c .before .before .before .before .before .before .before .before .before .before .before .pre .1), c .before .before .before .before .before .before .loop .inv .can)) (λ c. search needs) (λ c. search needs) (λ c. omega (arith, c .before .before .before .before .before .before .before .before .before .before .before .before .pre .1, c .before .before .before .before .before .before .before .before .before .before .before .before .pre .0 .ready .few-definitions)) (λ c. search needs) (λ c. search needs) (λ c. seek-goes (c .before .before .before .before .before .before .before .before .before .before .before .before .before .before .pre .0) (c .before .before .before .before .before .before .before .before .before .before .before .before .before .before .pre .2) (c .before .before .before .before .before .before .before .before .before .before .before .before .before .before .pre .1) (c .before .before .before .before .before .before .before .before .before .loop .inv) _ (c .before .before .before .before .before .before .before .left-at .ensures) (c .before .before .before .before .before .before .if1 .taken) (c .before .before .before .before .before .before .before .before .loop-test .taken) (c .before .before .visit-fields .ensures) (c .if2 .taken)) (λ c. seek-stops (c .before .before .before .before .before .before .before .before .before .before .before .before .before .before .pre .0) (c .before .before .before .before .before .before .before .before .before .before .before .before .before .before .pre .2) (c .before .before .before .before .before .before .before .before .before .before .before .before .before .before .pre .1) (c .before .before .before .before .before .before .before .before .before .loop .inv) _ (c .before .before .before .before .before .before .before .left-at .ensures) (c .before .before .before .before .before .before .if1 .taken) (c .before .before .before .before .before .before .before .before .loop-test .taken) (c .before .before .visit-fields .ensures) (c .if2 .left)) (λ c. search needs) (λ c. search needs) (λ c. seek-passes (c .before .before .before .before .before .before .before .before .pre .0) (c .before .before .before .before .before .before .before .before .pre .2) (c .before .before .before .before .before .before .before .before .pre .1) (c .before .before .before .loop .inv) (rw (c .before .left-at .ensures) at (c .if1 .left))) (λ c. seek-ends (c .before .before .before .before .before .before .pre .0) (c .before .before .before .before .before .before .pre .2) (c .before .before .before .before .before .before .pre .1) (c .before .loop .inv) (omega arith)))
+seek-spec = tie.close (tie.spec Inv-loop μ-loop (λ c κs. tt) (λ c κs. tt) (λ c κs. tt) (λ c. seek-starts _ _ (c .before .before .before .before .pre .0) (c .before .before .empty .ensures) (c .before .empty2 .ensures)) (λ c. search needs) (λ c κs. omega (arith, c .before .before .before .before .before .before .pre .2 .few)) (λ c κs. (omega (arith, c .before .before .before .before .before .before .before .before .before .before .before .pre .1), c .before .before .before .before .before .before .loop .inv .can)) (λ c. search needs) (λ c. search needs) (λ c. omega (arith, c .before .before .before .before .before .before .before .before .before .before .before .before .pre .1, c .before .before .before .before .before .before .before .before .before .before .before .before .pre .0 .ready .few-definitions)) (λ c. search needs) (λ c. search needs) (λ c. seek-goes (c .before .before .before .before .before .before .before .before .before .before .before .before .before .before .pre .0) (c .before .before .before .before .before .before .before .before .before .before .before .before .before .before .pre .2) (c .before .before .before .before .before .before .before .before .before .before .before .before .before .before .pre .1) (c .before .before .before .before .before .before .before .before .before .loop .inv) _ (c .before .before .before .before .before .before .before .left-at .ensures) (c .before .before .before .before .before .before .if1 .taken) (c .before .before .before .before .before .before .before .before .loop-test .taken) (c .before .before .search-fields .ensures) (c .if2 .taken)) (λ c. seek-stops (c .before .before .before .before .before .before .before .before .before .before .before .before .before .before .pre .0) (c .before .before .before .before .before .before .before .before .before .before .before .before .before .before .pre .2) (c .before .before .before .before .before .before .before .before .before .before .before .before .before .before .pre .1) (c .before .before .before .before .before .before .before .before .before .loop .inv) _ (c .before .before .before .before .before .before .before .left-at .ensures) (c .before .before .before .before .before .before .if1 .taken) (c .before .before .before .before .before .before .before .before .loop-test .taken) (c .before .before .search-fields .ensures) (c .if2 .left)) (λ c. search needs) (λ c. search needs) (λ c. seek-passes (c .before .before .before .before .before .before .before .before .pre .0) (c .before .before .before .before .before .before .before .before .pre .2) (c .before .before .before .before .before .before .before .before .pre .1) (c .before .before .before .loop .inv) (rw (c .before .left-at .ensures) at (c .if1 .left))) (λ c. seek-ends (c .before .before .before .before .before .before .pre .0) (c .before .before .before .before .before .before .pre .2) (c .before .before .before .before .before .before .pre .1) (c .before .loop .inv) (omega arith)))

@@ -14,4 +14,4 @@ abbrev μ-loop : tie.MeasureT-loop
 μ-loop pack c order₀ marks₀ skips₀ names n₀ d₀ order marks skips n d = names - d
 
 pub visit-all-spec : {M : Type 1} → statement M
-visit-all-spec = tie.close (tie.spec Inv-loop μ-loop (λ c κs. search needs) (λ c κs. search needs) (λ c. list-starts _ (c .before .before .before .pre .0) (c .before .empty .ensures) (c .empty2 .ensures) (c .before .before .before .pre .1) refl) (λ c κs. (omega arith, c .before .before .before .before .loop .inv .can)) (λ c. search needs) (λ c. search needs) (λ c. list-goes (c .before .before .before .before .before .loop .inv) (c .visit-name .ensures)) (λ c. list-ends (c .before .loop .inv) (omega arith)))
+visit-all-spec = tie.close (tie.spec Inv-loop μ-loop (λ c κs. search needs) (λ c κs. search needs) (λ c. list-starts _ (c .before .before .before .pre .0) (c .before .empty .ensures) (c .empty2 .ensures) (c .before .before .before .pre .1) refl) (λ c κs. (omega arith, c .before .before .before .before .loop .inv .can)) (λ c. search needs) (λ c. search needs) (λ c. list-goes (c .before .before .before .before .before .loop .inv) (c .search-name .ensures)) (λ c. list-ends (c .before .loop .inv) (omega arith)))

@@ -1,6 +1,6 @@
 -- The answers of `visit_fields`.
 use Prim.Native.Nat.{ℕ}
-use Rattle.pack.proofs.definition_row.Reads as definition-row-reads
+use Rattle.type_cycle.proofs.sizes.definition_of.Reads as definition-of-reads
 use Rattle.type_cycle.proofs.visits.visit_fields.Reads as visit-fields
 use Rattle.type_cycle.proofs.visits.visit_list.Reads as visit-list
 use Rattle.type_cycle.proofs.visits.+visit+visit_fields+visit_item+visit_list+visit_name+visit_row.Lts-visit_fields as visit-fields-lts
@@ -12,27 +12,27 @@ use Rattle.type_cycle.proofs.StepLaws.{enum-types, record-types, no-typ
 
 abbrev claims : ℕ → visit-fields-lts.Claims
 claims t = (
-  definition-row-reads.Asked,
-  definition-row-reads.Learnt,
+  definition-of-reads.Asked,
+  definition-of-reads.Learnt,
   visit-list-below t,
   visit-list.Post,
 )
 
 module _ (t : ℕ) where
   visit-list-requires : visit-fields-lts.Need-visit-list-requires (claims t) (visit-fields-at t) visit-fields.Post
-  visit-list-requires c κs = (omega (arith, c .before .before .before .before .before .before .pre .0), (rw (enum-types _ _ _ (c .before .before .before .before .definition-row .ensures) (c .before .before .before .match .keys1)) (c .before .before .before .before .before .before .pre .1 .1 .ready .fields _ (c .before .before .before .before .before .before .pre .1 .0)), c .before .before .before .before .before .before .pre .1 .1))
+  visit-list-requires c κs = (omega (arith, c .before .before .before .before .before .before .pre .0), (rw (enum-types _ _ _ (c .before .before .before .before .definition-of .ensures) (c .before .before .before .match .keys1)) (c .before .before .before .before .before .before .pre .1 .1 .ready .fields _ (c .before .before .before .before .before .before .pre .1 .0)), c .before .before .before .before .before .before .pre .1 .1))
 
   visit-list-requires-2 : visit-fields-lts.Need-visit-list-requires-2 (claims t) (visit-fields-at t) visit-fields.Post
-  visit-list-requires-2 c κs = (omega (arith, c .before .before .before .before .before .before .pre .0), (rw (record-types _ _ _ (c .before .before .before .before .definition-row .ensures) (c .before .before .before .match .keys2)) (c .before .before .before .before .before .before .pre .1 .1 .ready .fields _ (c .before .before .before .before .before .before .pre .1 .0)), c .before .before .before .before .before .before .pre .1 .1))
+  visit-list-requires-2 c κs = (omega (arith, c .before .before .before .before .before .before .pre .0), (rw (record-types _ _ _ (c .before .before .before .before .definition-of .ensures) (c .before .before .before .match .keys2)) (c .before .before .before .before .before .before .pre .1 .1 .ready .fields _ (c .before .before .before .before .before .before .pre .1 .0)), c .before .before .before .before .before .before .pre .1 .1))
 
   returns : visit-fields-lts.Need-returns (claims t) (visit-fields-at t) visit-fields.Post
-  returns c = rw (← enum-types _ _ _ (c .before .before .before .before .before .definition-row .ensures) (c .before .before .before .before .match .keys1)) (c .visit-list .ensures)
+  returns c = rw (← enum-types _ _ _ (c .before .before .before .before .before .definition-of .ensures) (c .before .before .before .before .match .keys1)) (c .visit-list .ensures)
 
   returns-2 : visit-fields-lts.Need-returns-2 (claims t) (visit-fields-at t) visit-fields.Post
-  returns-2 c = rw (← record-types _ _ _ (c .before .before .before .before .before .definition-row .ensures) (c .before .before .before .before .match .keys2)) (c .visit-list2 .ensures)
+  returns-2 c = rw (← record-types _ _ _ (c .before .before .before .before .before .definition-of .ensures) (c .before .before .before .before .match .keys2)) (c .visit-list2 .ensures)
 
   returns-3 : visit-fields-lts.Need-returns-3 (claims t) (visit-fields-at t) visit-fields.Post
-  returns-3 c = rw (← no-types _ _ _ (c .before .definition-row .ensures) (c .match .rest)) (nothing _)
+  returns-3 c = rw (← no-types _ _ _ (c .before .definition-of .ensures) (c .match .rest)) (nothing _)
 
   pub visit-fields-closed : {M : Type 1} → visit-fields-lts.Closed (claims t) (visit-fields-at t) visit-fields.Post M
   visit-fields-closed =

@@ -1,6 +1,6 @@
 -- The answers of `visit_item`.
 use Prim.Native.Nat.{ℕ}
-use Rattle.pack.proofs.list_item.Reads as list-item-reads
+use Rattle.type_cycle.proofs.sizes.item_of.Reads as item-of-reads
 use Rattle.type_cycle.proofs.skips.is_variants.Reads as is-variants-reads
 use Rattle.type_cycle.proofs.skips.word_in.Reads as word-in-reads
 use Rattle.type_cycle.proofs.visits.visit.Reads as visit
@@ -18,8 +18,8 @@ abbrev claims : ℕ → visit-item-lts.Claims
 claims t = (
   word-in-reads.Asked,
   word-in-reads.Learnt,
-  list-item-reads.Asked,
-  list-item-reads.Learnt,
+  item-of-reads.Asked,
+  item-of-reads.Learnt,
   is-variants-reads.Asked,
   is-variants-reads.Learnt,
   visit-list-below t,
@@ -30,16 +30,16 @@ claims t = (
 
 module _ (t : ℕ) where
   visit-list-requires : visit-item-lts.Need-visit-list-requires (claims t) (visit-item-at t) visit-item.Post
-  visit-list-requires c κs = (omega (arith, c .before .before .before .before .before .before .before .before .pre .0, ap tier (variants-only (c .before .before .before .before .before .before .before .before .args .items) (c .before .before .before .before .is-variants .ensures) (c .before .before .before .if1 .taken))), (variant-inside _ _ _ (c .before .before .before .before .before .before .before .before .args .k) (c .before .before .before .before .before .before .before .before .args .items) (c .before .before .before .before .is-variants .ensures) (c .before .before .before .if1 .taken) (c .before .before .before .before .before .before .word-in .ensures) (c .before .before .before .before .before .list-item .ensures .same) (c .before .before .before .before .before .before .before .before .pre .1 .1), c .before .before .before .before .before .before .before .before .pre .1 .2))
+  visit-list-requires c κs = (omega (arith, c .before .before .before .before .before .before .before .before .pre .0, ap tier (variants-only (c .before .before .before .before .before .before .before .before .args .items) (c .before .before .before .before .is-variants .ensures) (c .before .before .before .if1 .taken))), (variant-inside _ _ _ (c .before .before .before .before .before .before .before .before .args .k) (c .before .before .before .before .before .before .before .before .args .items) (c .before .before .before .before .is-variants .ensures) (c .before .before .before .if1 .taken) (c .before .before .before .before .before .before .word-in .ensures) (c .before .before .before .before .before .item-of .ensures .same) (c .before .before .before .before .before .before .before .before .pre .1 .1), c .before .before .before .before .before .before .before .before .pre .1 .2))
 
   visit-requires : visit-item-lts.Need-visit-requires (claims t) (visit-item-at t) visit-item.Post
-  visit-requires c κs = (omega (arith, c .before .before .before .before .before .before .before .before .pre .0), (type-inside _ _ _ (c .before .before .before .before .before .before .before .before .args .k) (c .before .before .before .before .before .before .before .before .args .items) (c .before .before .before .before .is-variants .ensures) (c .before .before .before .if1 .left) (c .before .before .before .before .before .before .word-in .ensures) (c .before .before .before .before .before .list-item .ensures .same) (c .before .before .before .before .before .before .before .before .pre .1 .1), c .before .before .before .before .before .before .before .before .pre .1 .2))
+  visit-requires c κs = (omega (arith, c .before .before .before .before .before .before .before .before .pre .0), (type-inside _ _ _ (c .before .before .before .before .before .before .before .before .args .k) (c .before .before .before .before .before .before .before .before .args .items) (c .before .before .before .before .is-variants .ensures) (c .before .before .before .if1 .left) (c .before .before .before .before .before .before .word-in .ensures) (c .before .before .before .before .before .item-of .ensures .same) (c .before .before .before .before .before .before .before .before .pre .1 .1), c .before .before .before .before .before .before .before .before .pre .1 .2))
 
   returns : visit-item-lts.Need-returns (claims t) (visit-item-at t) visit-item.Post
-  returns c = visits-variant _ _ _ (c .before .before .before .before .before .before .before .before .before .args .k) (c .before .before .before .before .before .before .before .before .before .args .items) (c .before .before .before .before .before .is-variants .ensures) (c .before .before .before .before .if1 .taken) (c .before .before .before .before .before .before .before .word-in .ensures) (c .before .before .before .before .before .before .list-item .ensures .same) (c .visit-list .ensures)
+  returns c = visits-variant _ _ _ (c .before .before .before .before .before .before .before .before .before .args .k) (c .before .before .before .before .before .before .before .before .before .args .items) (c .before .before .before .before .before .is-variants .ensures) (c .before .before .before .before .if1 .taken) (c .before .before .before .before .before .before .before .word-in .ensures) (c .before .before .before .before .before .before .item-of .ensures .same) (c .visit-list .ensures)
 
   returns-2 : visit-item-lts.Need-returns-2 (claims t) (visit-item-at t) visit-item.Post
-  returns-2 c = visits-type _ _ _ (c .before .before .before .before .before .before .before .before .before .args .k) (c .before .before .before .before .before .before .before .before .before .args .items) (c .before .before .before .before .before .is-variants .ensures) (c .before .before .before .before .if1 .left) (c .before .before .before .before .before .before .before .word-in .ensures) (c .before .before .before .before .before .before .list-item .ensures .same) (c .visit .ensures)
+  returns-2 c = visits-type _ _ _ (c .before .before .before .before .before .before .before .before .before .args .k) (c .before .before .before .before .before .before .before .before .before .args .items) (c .before .before .before .before .before .is-variants .ensures) (c .before .before .before .before .if1 .left) (c .before .before .before .before .before .before .before .word-in .ensures) (c .before .before .before .before .before .before .item-of .ensures .same) (c .visit .ensures)
 
   pub visit-item-closed : {M : Type 1} → visit-item-lts.Closed (claims t) (visit-item-at t) visit-item.Post M
   visit-item-closed =

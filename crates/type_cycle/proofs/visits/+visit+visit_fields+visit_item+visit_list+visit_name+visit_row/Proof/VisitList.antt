@@ -1,6 +1,6 @@
 -- The answers of `visit_list`.
 use Prim.Native.Nat.{ℕ}
-use Rattle.pack.proofs.list_len.Reads as list-len-reads
+use Rattle.type_cycle.proofs.sizes.length_of.Reads as length-of-reads
 use Rattle.type_cycle.proofs.skips.pass.Reads as pass-reads
 use Rattle.type_cycle.proofs.skips.set_skip.Reads as set-skip-reads
 use Rattle.type_cycle.proofs.skips.skip_at.Reads as skip-at-reads
@@ -13,6 +13,7 @@ use native.Mathlib.Omega.{arith}
 use Prim.Native.Nat.{_≤_, _-_}
 use Rattle.laws.specs.Lists.{gather}
 use Rattle.type_cycle.specs.Graph.{itemTypes}
+use Rattle.type_cycle.specs.Sizes.{countsIn}
 use Rattle.type_cycle.specs.Search.{st, Visited}
 use Rattle.type_cycle.proofs.VisitLaws.{nothing}
 use Rattle.type_cycle.proofs.StepLaws.{item-within, visited-can, whole-list}
@@ -20,8 +21,8 @@ use Rattle.type_cycle.proofs.SkipLaws.{visits-item, visits-passed}
 
 abbrev claims : ℕ → visit-list-lts.Claims
 claims t = (
-  list-len-reads.Asked,
-  list-len-reads.Learnt,
+  length-of-reads.Asked,
+  length-of-reads.Learnt,
   skip-at-reads.Asked,
   skip-at-reads.Learnt,
   visit-item-below t,
@@ -33,7 +34,7 @@ claims t = (
 )
 
 abbrev Inv-loop : visit-list-lts.InvT-loop
-Inv-loop pack c items s n marks₀ skips₀ order₀ count m₀ k₀ marks skips order m k = (k ≤ count) × Visited pack c (gather (itemTypes pack c items s) 0 k) (st marks₀ skips₀ order₀ n) (st marks skips order m)
+Inv-loop pack c items s n marks₀ skips₀ order₀ count m₀ k₀ marks skips order m k = (k ≤ count) × Visited pack (countsIn c) (gather (itemTypes pack (countsIn c) items s) 0 k) (st marks₀ skips₀ order₀ n) (st marks skips order m)
 
 abbrev μ-loop : visit-list-lts.MeasureT-loop
 μ-loop pack c items s n marks₀ skips₀ order₀ count m₀ k₀ marks skips order m k = count - k
@@ -44,13 +45,13 @@ module _ (t : ℕ) where
   loop-holds c = (omega arith, nothing _)
 
   visit-item-requires : visit-list-lts.Need-visit-item-requires (claims t) (visit-list-at t) visit-list.Post Inv-loop μ-loop
-  visit-item-requires c κs = (omega (arith, c .before .before .before .before .before .before .before .before .before .before .pre .0, c .before .before .before .before .before .before .before .loop .inv .1 .fewer), (omega (arith, c .before .before .before .before .before .before .before .before .list-len .ensures .small), item-within _ _ _ _ _ (omega (arith, c .before .before .before .before .before .before .before .before .list-len .ensures .same)) (c .before .before .before .before .before .before .before .before .before .before .pre .1 .0), visited-can (c .before .before .before .before .before .before .before .before .before .before .pre .1 .1) (c .before .before .before .before .before .before .before .loop .inv .1)))
+  visit-item-requires c κs = (omega (arith, c .before .before .before .before .before .before .before .before .before .before .pre .0, c .before .before .before .before .before .before .before .loop .inv .1 .fewer), (omega (arith, c .before .before .before .before .before .before .before .before .length-of .ensures .small), item-within _ _ _ _ _ (omega (arith, c .before .before .before .before .before .before .before .before .length-of .ensures .same)) (c .before .before .before .before .before .before .before .before .before .before .pre .1 .0), visited-can (c .before .before .before .before .before .before .before .before .before .before .pre .1 .1) (c .before .before .before .before .before .before .before .loop .inv .1)))
 
   loop-again : visit-list-lts.Need-loop-again (claims t) (visit-list-at t) visit-list.Post Inv-loop μ-loop
   loop-again c = (omega arith, visits-item _ _ (c .before .before .before .before .before .before .before .before .before .before .before .before .before .args .items) (c .before .before .before .before .before .before .before .before .before .before .before .before .before .args .s) (c .before .before .before .before .before .before .before .before .before .before .loop .k) (c .before .before .before .before .before .before .before .before .before .before .loop .inv .1) _ (c .before .before .visit-item .ensures) (c .set-skip .ensures))
 
   pass-requires : visit-list-lts.Need-pass-requires (claims t) (visit-list-at t) visit-list.Post Inv-loop μ-loop
-  pass-requires c κs = (omega arith, omega arith, omega (arith, c .before .before .before .before .before .before .list-len .ensures .small), c .before .before .skip-at .ensures)
+  pass-requires c κs = (omega arith, omega arith, omega (arith, c .before .before .before .before .before .before .length-of .ensures .small), c .before .before .skip-at .ensures)
 
   loop-less-2 : visit-list-lts.Need-loop-less-2 (claims t) (visit-list-at t) visit-list.Post Inv-loop μ-loop
   loop-less-2 c = omega (arith, c .pass .ensures .low, c .pass .ensures .high)
@@ -59,7 +60,7 @@ module _ (t : ℕ) where
   loop-again-2 c = (c .pass .ensures .high, visits-passed _ _ _ _ _ (c .before .before .before .before .before .before .loop .inv .1) (c .pass .ensures))
 
   returns : visit-list-lts.Need-returns (claims t) (visit-list-at t) visit-list.Post Inv-loop μ-loop
-  returns c = whole-list _ _ _ _ _ _ (c .before .before .list-len .ensures .same) (c .before .loop .inv .0) (omega arith) (c .before .loop .inv .1)
+  returns c = whole-list _ _ _ _ _ _ (c .before .before .length-of .ensures .same) (c .before .loop .inv .0) (omega arith) (c .before .loop .inv .1)
 
   pub visit-list-closed : {M : Type 1} → visit-list-lts.Closed (claims t) (visit-list-at t) visit-list.Post M
   visit-list-closed =
