@@ -1,6 +1,5 @@
 -- Lists by what they look like, and rows by their keys: two rows have the same key exactly if they are equal in structure.
 --     Like, is-like, like-is       two lists look the same, item by item
---     print-like                   they have the same fingerprint then
 --     like-part                    it is the same with another numbering that agrees on their types
 --     key-equal, equal-key         rows by their keys
 -- Assumes nothing.
@@ -19,9 +18,9 @@ use Rattle.laws.proofs.Choice.{yes, no, by-test, by-eq, and-both}
 use Rattle.pack.specs.Rows.{typeRow}
 use Rattle.pack.specs.declared.counts.Counts.{Counts}
 use Rattle.pack.specs.declared.rows.TypeRow.{TypeRow}
-use Rattle.structure.specs.Structure.{rows, PartsSmaller, numbered, numberOf, equal, rowNumber}
-use Rattle.structure.specs.Lists.{slotOf, lenAt, nameAt, partAt}
-use Rattle.structure.specs.Table.{likeAt, like, mixed, printIn, print, heldIn, firstOf, keyOf}
+use Rattle.structure.specs.Structure.{rows, PartsSmaller, paired, numbered, numberOf, equal, rowNumber}
+use Rattle.structure.specs.Lists.{noList, listed, slotOf, sortOf, lenAt, nameAt, partAt}
+use Rattle.structure.specs.Table.{likeAt, like, firstOf, keyOf}
 use Rattle.structure.proofs.Pairs.{both-true}
 use Rattle.structure.proofs.Flat.{Flat, part-in, return-in}
 use Rattle.structure.proofs.Reading.{number-small, number-of-small}
@@ -30,12 +29,34 @@ use Rattle.structure.proofs.Equal.{number-le, byNumber, equal-flat, fla
 
 -- ---- lists
 
+-- lists of one sort are as long
+pub sort-len : (p : List ℕ) (c : Counts) (s t : ℕ) → sortOf p c s ≡ sortOf p c t → lenAt p c s ≡ lenAt p c t
+unfolding sortOf
+sort-len p c s t e = omega arith
+
+-- rows of one kind have lists of pairs, or not
+slot-even : (r q : TypeRow) → r .kind ≡ q .kind → slotOf r % 2 ≡ slotOf q % 2
+unfolding slotOf
+slot-even r q e =
+    by-test (paired (q .kind))
+    (λ t. rw (sym (yes (paired (r .kind)) (2 * r .b + 1) (pick (listed (r .kind)) (2 * r .b) noList) (rw e t) refl), sym (yes (paired (q .kind)) (2 * q .b + 1) (pick (listed (q .kind)) (2 * q .b) noList) t refl)) (omega arith))
+    (λ f.
+    by-test (listed (q .kind))
+    (λ t. rw (sym (no (paired (r .kind)) (2 * r .b + 1) _ (rw e f) (yes (listed (r .kind)) (2 * r .b) noList (rw e t) refl)), sym (no (paired (q .kind)) (2 * q .b + 1) _ f (yes (listed (q .kind)) (2 * q .b) noList t refl))) (omega arith))
+    (λ g. rw (sym (no (paired (r .kind)) (2 * r .b + 1) _ (rw e f) (no (listed (r .kind)) (2 * r .b) noList (rw e g) refl)), sym (no (paired (q .kind)) (2 * q .b + 1) _ f (no (listed (q .kind)) (2 * q .b) noList g refl))) refl))
+
+sort-of-kind : (p : List ℕ) (c : Counts) (i j : ℕ) → typeRow p i .kind ≡ typeRow p j .kind
+    → lenAt p c (slotOf (typeRow p i)) ≡ lenAt p c (slotOf (typeRow p j)) → sortOf p c (slotOf (typeRow p i)) ≡ sortOf p c (slotOf (typeRow p j))
+unfolding sortOf
+sort-of-kind p c i j e q = rw (q, slot-even (typeRow p i) (typeRow p j) e) refl
+
 module _ (p : List ℕ) (c : Counts) where
   -- the slot of a row
   abbrev pub slotAt : ℕ → ℕ
   slotAt i = slotOf (typeRow p i)
 
   pub record Like (f : ℕ → ℕ) (s t : ℕ) : Type 0 where
+    pub sorts : sortOf p c s ≡ sortOf p c t
     pub lens : lenAt p c s ≡ lenAt p c t
     pub names : (m : ℕ) → m < lenAt p c s → nameAt p c s m ≡ nameAt p c t m
     pub parts : (m : ℕ) → m < lenAt p c s → f (partAt p c s m) ≡ f (partAt p c t m)
@@ -44,12 +65,13 @@ module _ (p : List ℕ) (c : Counts) where
     pub is-like : (s t : ℕ) → like p c f s t ≡ true → Like f s t
     unfolding like
     is-like s t e =
-        let q = and-both (eqb (lenAt p c s) (lenAt p c t)) (all (likeAt p c f s t) 0 (lenAt p c s)) e in
+        let q = and-both (eqb (sortOf p c s) (sortOf p c t)) (all (likeAt p c f s t) 0 (lenAt p c s)) e in
         let r : (m : ℕ) → m < lenAt p c s → (eqb (nameAt p c s m) (nameAt p c t m) ≡ true) × (eqb (f (partAt p c s m)) (f (partAt p c t m)) ≡ true) =
         λ m h. and-both _ _ (all-each (likeAt p c f s t) (lenAt p c s) (q .1) m h)
         in
         record {
-          lens = eqb-true _ _ (q .0);
+          sorts = eqb-true _ _ (q .0);
+          lens = sort-len p c s t (eqb-true _ _ (q .0));
           names = λ m h. eqb-true _ _ (r m h .0);
           parts = λ m h. eqb-true _ _ (r m h .1);
         }
@@ -57,7 +79,7 @@ module _ (p : List ℕ) (c : Counts) where
     pub like-is : (s t : ℕ) → Like f s t → like p c f s t ≡ true
     unfolding like
     like-is s t l =
-        both-true (eq-eqb _ _ (l .lens)) (all-true (likeAt p c f s t) (lenAt p c s) (λ m h. both-true (eq-eqb _ _ (l .names m h)) (eq-eqb _ _ (l .parts m h))))
+        both-true (eq-eqb _ _ (l .sorts)) (all-true (likeAt p c f s t) (lenAt p c s) (λ m h. both-true (eq-eqb _ _ (l .names m h)) (eq-eqb _ _ (l .parts m h))))
 
     -- the lists of rows
     abbrev pub rowLike : ℕ → ℕ → Bool
@@ -65,45 +87,30 @@ module _ (p : List ℕ) (c : Counts) where
 
     pub like-equivalence : (n : ℕ) → Equivalence rowLike n
     like-equivalence n = record {
-      reflexive = λ i h. like-is _ _ (record { lens = refl; names = λ m l. refl; parts = λ m l. refl });
+      reflexive = λ i h. like-is _ _ (record { sorts = refl; lens = refl; names = λ m l. refl; parts = λ m l. refl });
       symmetric = λ i j a b e.
           let l = is-like _ _ e in
-          like-is _ _ (record { lens = sym (l .lens); names = λ m h. sym (l .names m (rw (l .lens) h)); parts = λ m h. sym (l .parts m (rw (l .lens) h)) });
+          like-is _ _ (record { sorts = sym (l .sorts); lens = sym (l .lens); names = λ m h. sym (l .names m (rw (l .lens) h)); parts = λ m h. sym (l .parts m (rw (l .lens) h)) });
       transitive = λ i j k a b h d e.
           let l = is-like _ _ d in
           let r = is-like _ _ e in
           like-is _ _
           (record {
+            sorts = l .sorts ∙ r .sorts;
             lens = l .lens ∙ r .lens;
             names = λ m h. l .names m h ∙ r .names m (rw (l .lens) at h);
             parts = λ m h. l .parts m h ∙ r .parts m (rw (l .lens) at h);
           });
     }
 
-    print-in : (s t : ℕ) → Like f s t → (m : ℕ) → m ≤ lenAt p c s → printIn p c f s m ≡ printIn p c f t m
-    unfolding printIn
-    print-in s t l zero h = l .lens
-    print-in s t l (suc m) h = rw (print-in s t l m (omega arith), l .names m (omega arith), l .parts m (omega arith))
-
-    -- lists that look the same have the same fingerprint
-    pub print-like : (s t : ℕ) → Like f s t → print p c f s ≡ print p c f t
-    print-like s t l = print-in s t l (lenAt p c s) (omega arith) ∙ ap (printIn p c f t) (l .lens)
-
   -- two numberings that agree on the types of a list
   module _ (f g : ℕ → ℕ) where
     abbrev pub Agree : ℕ → Type 0
     Agree s = (m : ℕ) → m < lenAt p c s → f (partAt p c s m) ≡ g (partAt p c s m)
 
-    print-part : (s m : ℕ) → Agree s → m ≤ lenAt p c s → printIn p c f s m ≡ printIn p c g s m
-    unfolding printIn
-    print-part s zero q h = refl
-    print-part s (suc m) q h = rw (print-part s m q (omega arith), q m (omega arith))
-
-    pub print-agree : (s : ℕ) → Agree s → print p c f s ≡ print p c g s
-    print-agree s q = print-part s (lenAt p c s) q (omega arith)
-
     pub like-agree : (s t : ℕ) → Agree s → Agree t → Like f s t → Like g s t
     like-agree s t q r l = record {
+      sorts = l .sorts;
       lens = l .lens;
       names = l .names;
       parts = λ m h. sym (q m h) ∙ l .parts m h ∙ r m (rw (l .lens) at h);
@@ -151,7 +158,7 @@ module _ (p : List ℕ) (c : Counts) (small : PartsSmaller p c) where
   pub equal-key : (i j : ℕ) → i < c .types → j < c .types → equal p c i j ≡ true → rowKey p c i ≡ rowKey p c j
   equal-key i j a b e =
       let f = equal-flat p c small i j a b e in
-      let l : Like p c (rowNumber p c) (slotAt p c i) (slotAt p c j) = record { lens = f .lens; names = f .names; parts = λ m h. eqb-true _ _ (f .parts m h) } in
+      let l : Like p c (rowNumber p c) (slotAt p c i) (slotAt p c j) = record { sorts = sort-of-kind p c i j (f .kinds) (f .lens); lens = f .lens; names = f .names; parts = λ m h. eqb-true _ _ (f .parts m h) } in
       let x : firstOf (rowNumber p c) (typeRow p i) ≡ firstOf (rowNumber p c) (typeRow p j) =
       by-eq (typeRow p i .kind) 6
       (λ k. sym (first-function i k) ∙ eqb-true _ _ (f .returns k) ∙ first-function j (sym (f .kinds) ∙ k))

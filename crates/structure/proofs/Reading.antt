@@ -16,8 +16,8 @@ use Rattle.pack.specs.Rows.{typeRow}
 use Rattle.pack.specs.declared.counts.Counts.{Counts}
 use Rattle.pack.specs.declared.rows.TypeRow.{TypeRow}
 use Rattle.structure.specs.Structure.{paired, numbered, numberOf}
-use Rattle.structure.specs.Lists.{noList, listed, slotOf, lenAt, nameAt, partAt}
-use Rattle.structure.specs.Table.{mixed, printIn, firstOf}
+use Rattle.structure.specs.Lists.{noList, listed, slotOf, lenAt}
+use Rattle.structure.specs.Table.{firstOf}
 use Rattle.structure.proofs.Flat.{start-small}
 
 module _ (p : List ℕ) (i : ℕ) {r : TypeRow} (e : r ≡ typeRow p i) where
@@ -37,12 +37,6 @@ module _ (p : List ℕ) (i : ℕ) {r : TypeRow} (e : r ≡ typeRow p i) where
       pub slot-none : a ≡ false → b ≡ false → Reads noList (slotOf (typeRow p i)) 32769
       unfolding slotOf
       slot-none f g = record { same = rw (← e) (no _ _ _ (sym x ∙ f) (no _ _ _ (sym y ∙ g) refl)); small = omega arith }
-
--- a fingerprint with one item more
-pub print-more : (p : List ℕ) (c : Counts) (f : ℕ → ℕ) (s m : ℕ) {h name k part : ℕ}
-    → h ≡ printIn p c f s m → name ≡ nameAt p c s m → part ≡ partAt p c s m → k ≡ f part → mixed h name k ≡ printIn p c f s (m + 1)
-unfolding printIn
-print-more p c f s m a b d e = rw (add-one, a, b, e, d)
 
 -- ---- a row's kind, and what comes first in its key
 

@@ -19,14 +19,18 @@ bucketOf x = x % buckets
 abbrev pub headAt : List ℕ → ℕ → ℕ
 headAt heads b = get buckets heads b
 
--- xs has the values; no row between two links, or after a head, falls into their bucket
+-- n rows at most, of which row k has the value x k; no row between two links, or after a head, falls into their bucket
+pub record Links (n : ℕ) (x : ℕ → ℕ) (heads nexts : List ℕ) (i : ℕ) : Type 0 where
+  pub sizeHeads : length heads ≡ buckets
+  pub sizeNexts : length nexts ≡ n
+  pub headLow : (b : ℕ) → headAt heads b ≤ i
+  pub headSame : (b : ℕ) → (headAt heads b ≡ 0 → ⊥) → bucketOf (x (headAt heads b - 1)) ≡ b
+  pub headPast : (b k : ℕ) → b < buckets → k < i → headAt heads b ≤ k → bucketOf (x k) ≡ b → ⊥
+  pub nextLow : (k : ℕ) → k < i → get n nexts k ≤ k
+  pub nextSame : (k : ℕ) → k < i → (get n nexts k ≡ 0 → ⊥) → bucketOf (x (get n nexts k - 1)) ≡ bucketOf (x k)
+  pub nextPast : (k l : ℕ) → k < i → get n nexts k ≤ l → l < k → bucketOf (x l) ≡ bucketOf (x k) → ⊥
+
+-- rows of the table, whose values are in xs
 pub record Chained (xs heads nexts : List ℕ) (i : ℕ) : Type 0 where
   pub size : length xs ≡ rows
-  pub sizeHeads : length heads ≡ buckets
-  pub sizeNexts : length nexts ≡ rows
-  pub headLow : (b : ℕ) → headAt heads b ≤ i
-  pub headSame : (b : ℕ) → (headAt heads b ≡ 0 → ⊥) → bucketOf (entry xs (headAt heads b - 1)) ≡ b
-  pub headPast : (b k : ℕ) → b < buckets → k < i → headAt heads b ≤ k → bucketOf (entry xs k) ≡ b → ⊥
-  pub nextLow : (k : ℕ) → k < i → entry nexts k ≤ k
-  pub nextSame : (k : ℕ) → k < i → (entry nexts k ≡ 0 → ⊥) → bucketOf (entry xs (entry nexts k - 1)) ≡ bucketOf (entry xs k)
-  pub nextPast : (k l : ℕ) → k < i → entry nexts k ≤ l → l < k → bucketOf (entry xs l) ≡ bucketOf (entry xs k) → ⊥
+  pub links : Links rows (entry xs) heads nexts i

@@ -1,56 +1,62 @@
--- What is told of a row's list: of a new one what is read, of one that an earlier row has what was kept.
+-- What is told of a row's list: of one that looks like an earlier list what was kept of that, of a new one what is read.
 use mathlib.Core.Path.{_≡_}
 use mathlib.Core.List.{List}
-use mathlib.Core.Bool.{Bool, _&&_}
-use Prim.Native.Nat.{ℕ, _+_, _-_}
+use mathlib.Core.Bool.{Bool, true, false}
+use Prim.Native.Nat.{ℕ, _+_, _-_, _*_, _%_, _<_, _≤_}
 use lib.Dec.{eqb, ltb}
 use lib.ListN.{set}
 use Rattle.laws.specs.Choice.{pick}
 use Rattle.laws.specs.Lists.{bit}
-use Rattle.laws.specs.Bounded.{get}
-use Rattle.laws.specs.Bounded.{Reads}
+use Rattle.laws.specs.Bounded.{get, Reads}
 use Rattle.pack.specs.Rows.{typeRow}
 use Rattle.pack.specs.declared.counts.Counts.{Counts}
-use Rattle.structure.specs.Lists.{slotOf}
-use Rattle.structure.specs.Table.{entry, like, print, heldIn, firstOf, keyOf, markOf, hasKey, Hit}
+use Rattle.structure.specs.Structure.{rows}
+use Rattle.structure.specs.Lists.{slotOf, sortOf}
+use Rattle.structure.specs.Table.{entry, like, heldIn, firstOf, keyOf, markOf, hasKey, Hit}
 use Rattle.structure.specs.Buckets.{Chained}
+use Rattle.structure.specs.Words.{WordsHeld}
+use Rattle.structure.specs.Tree.{Says, Finding, Grown, Shape, RootsLow}
 use Rattle.structure.specs.declared.facts.ListFacts.{ListFacts}
+use Rattle.structure.specs.declared.finding.Found.{Found}
 
 abbrev pub slots : ℕ
 slots = 32769
 
--- the list of row k has that fingerprint, and looks like the list at s
-unfoldable pub hasList : List ℕ → Counts → List ℕ → List ℕ → ℕ → ℕ → ℕ → Bool
-hasList p c same prints s h k = eqb (entry prints k) h && like p c (entry same) (slotOf (typeRow p k)) s
-
-pub record NewList (p : List ℕ) (c : Counts) (same marks lists prints : List ℕ) (i s : ℕ) (r : ListFacts) : Type 0 where
-  pub print : r .print ≡ print p c (entry same) s
-  pub held : r .held ≡ bit (heldIn p c (entry marks) s)
-  pub row : ℕ
-  pub hit : Hit (hasList p c same prints s (r .print)) i row
-  pub number : r .number ≡ pick (ltb row i) (entry lists row) i
-
-pub record OldList (lists prints helds : List ℕ) (k : ℕ) (r : ListFacts) : Type 0 where
-  pub number : r .number ≡ entry lists k
-  pub print : r .print ≡ entry prints k
-  pub held : r .held ≡ entry helds k
+-- the list of row k looks like the list at s
+abbrev pub hasList : List ℕ → Counts → List ℕ → ℕ → ℕ → Bool
+hasList p c same s k = like p c (entry same) (slotOf (typeRow p k)) s
 
 -- the array of users has, for each list, one more than a row that has it, or 0
-pub record ListTold (p : List ℕ) (c : Counts) (same marks users lists prints helds : List ℕ) (i s : ℕ) (r : ListFacts) : Type 0 where
-  pub new : get slots users s ≡ 0 → NewList p c same marks lists prints i s r
-  pub old : (get slots users s ≡ 0 → ⊥) → OldList lists prints helds (get slots users s - 1) r
+pub data Finds (p : List ℕ) (c : Counts) (same look users roots cells tests keys : List ℕ) (fit : Bool) (i s sort : ℕ) (r : Found) : Type 0 where
+  used : (k : ℕ) → get slots users s ≡ k + 1 → Says r k 0 0 0 0 → Finds p c same look users roots cells tests keys fit i s sort r
+  walked : fit ≡ true → Finding p look roots cells tests keys i s sort r → Finds p c same look users roots cells tests keys fit i s sort r
+  searched : (k : ℕ) → fit ≡ false → Hit (hasList p c same s) i k → Says r k 0 0 0 0 → Finds p c same look users roots cells tests keys fit i s sort r
+
+-- a type of the list is marked
+pub record HeldTold (p : List ℕ) (c : Counts) (marks look : List ℕ) (fit : Bool) (s sort : ℕ) (r : Bool) : Type 0 where
+  pub words : fit ≡ true → WordsHeld look s sort r
+  pub pack : fit ≡ false → r ≡ heldIn p c (entry marks) s
+
+pub record FactsTold (p : List ℕ) (c : Counts) (marks look lists helds : List ℕ) (fit : Bool) (i s sort row : ℕ) (l : ListFacts) : Type 0 where
+  pub number : l .number ≡ pick (ltb row i) (entry lists row) i
+  pub old : row < i → l .held ≡ entry helds row
+  pub held : Bool
+  pub new : i ≤ row → (l .held ≡ bit held) × HeldTold p c marks look fit s sort held
 
 -- what is told of row i's list is in the arrays afterwards
-pub record ListKept (p : List ℕ) (c : Counts) (same marks users lists prints helds : List ℕ) (i : ℕ) (l : ListFacts)
-    (users′ lists′ prints′ helds′ heads′ nexts′ : List ℕ) : Type 0 where
+pub record ListKept (p : List ℕ) (c : Counts) (same marks look users lists helds roots cells tests keys : List ℕ) (fit : Bool) (i : ℕ) (l : ListFacts)
+    (users′ lists′ helds′ roots′ cells′ tests′ keys′ : List ℕ) : Type 0 where
   pub slot : ℕ
   pub read : Reads slot (slotOf (typeRow p i)) slots
-  pub told : ListTold p c same marks users lists prints helds i slot l
+  pub sort : ℕ
+  pub sorted : sort ≡ sortOf p c slot
+  pub found : Found
+  pub finds : Finds p c same look users roots cells tests keys fit i slot sort found
+  pub told : FactsTold p c marks look lists helds fit i slot sort (found .row) l
+  pub grown : Grown roots cells tests keys i sort found roots′ cells′ tests′ keys′
   pub usersSet : users′ ≡ set users slot (i + 1)
   pub listsSet : lists′ ≡ set lists i (l .number)
-  pub printsSet : prints′ ≡ set prints i (l .print)
   pub heldsSet : helds′ ≡ set helds i (l .held)
-  pub chained : Chained prints′ heads′ nexts′ (i + 1)
 
 -- and so are row i's key, its number, that of a row before it with the same key or i, and its mark
 pub record RowKept (p same marks keys : List ℕ) (i : ℕ) (l : ListFacts) (same′ marks′ keys′ heads′ nexts′ : List ℕ) : Type 0 where

@@ -16,7 +16,7 @@ use Rattle.pack.specs.declared.counts.Counts.{Counts}
 use Rattle.pack.specs.declared.rows.TypeRow.{TypeRow}
 use Rattle.unionfind.specs.Codes.{numbers}
 use Rattle.structure.specs.Structure.{rows, PartsSmaller, numberOf, isVarKind, rowNumber, holds}
-use Rattle.structure.specs.Lists.{slotOf, lenAt, nameAt, partAt}
+use Rattle.structure.specs.Lists.{slotOf, sortOf, lenAt, nameAt, partAt}
 
 -- an array of the table with nothing in it
 pub record Clear (xs : List ℕ) : Type 0 where
@@ -31,20 +31,9 @@ entry xs k = get rows xs k
 abbrev pub likeAt : List ℕ → Counts → (ℕ → ℕ) → ℕ → ℕ → ℕ → Bool
 likeAt p c f s t m = eqb (nameAt p c s m) (nameAt p c t m) && eqb (f (partAt p c s m)) (f (partAt p c t m))
 
--- two lists look the same
+-- two lists look the same: both are of pairs or neither is, and they are as long
 unfoldable pub like : List ℕ → Counts → (ℕ → ℕ) → ℕ → ℕ → Bool
-like p c f s t = eqb (lenAt p c s) (lenAt p c t) && all (likeAt p c f s t) 0 (lenAt p c s)
-
--- A list's fingerprint. It only ever tells lists apart before they are compared: lists that look the same have the same.
-unfoldable pub mixed : ℕ → ℕ → ℕ → ℕ
-mixed h name k = (h * 65599 + (name * 4294967296 + k)) % 4294967291
-
-unfoldable pub printIn : List ℕ → Counts → (ℕ → ℕ) → ℕ → ℕ → ℕ
-printIn p c f s zero = lenAt p c s
-printIn p c f s (suc m) = mixed (printIn p c f s m) (nameAt p c s m) (f (partAt p c s m))
-
-abbrev pub print : List ℕ → Counts → (ℕ → ℕ) → ℕ → ℕ
-print p c f s = printIn p c f s (lenAt p c s)
+like p c f s t = eqb (sortOf p c s) (sortOf p c t) && all (likeAt p c f s t) 0 (lenAt p c s)
 
 -- a type of the list is marked
 unfoldable pub heldIn : List ℕ → Counts → (ℕ → ℕ) → ℕ → Bool
@@ -60,6 +49,10 @@ keyOf kind first list = (kind * numbers + first % numbers) * rows + list % rows
 -- a row is a variable's, returns a marked one, or its list has one
 unfoldable pub markOf : (ℕ → ℕ) → TypeRow → ℕ → ℕ
 markOf f r held = bit (isVarKind (r .kind) || (eqb (r .kind) 6 && not (eqb (f (r .a)) 0)) || not (eqb held 0))
+
+-- what is known of type k: its number and its mark as one
+unfoldable pub codeAt : List ℕ → List ℕ → ℕ → ℕ
+codeAt same marks k = 2 * (entry same k % numbers) + entry marks k % 2
 
 -- row k has that key
 abbrev pub hasKey : List ℕ → ℕ → ℕ → Bool

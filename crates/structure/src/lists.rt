@@ -1,45 +1,19 @@
 // Lists by what they look like: names as they are, types by their numbers.
 ghost use mathlib.Core.Path.{_≡_};
-ghost use mathlib.Core.Bool.{_&&_};
-ghost use Prim.Native.Nat.{_<_};
-ghost use lib.Dec.{eqb};
+ghost use Prim.Native.Nat.{_<_, _≤_, _+_, _*_};
 ghost use Rattle.laws.specs.First.{all};
-ghost use Rattle.laws.specs.Bounded.{Reads};
-ghost use Rattle.pack.specs.Rows.{typeRow};
-ghost use Rattle.structure.specs.Lists.{slotOf};
-ghost use Rattle.structure.specs.Table.{entry, likeAt, like, mixed, print, heldIn, Hit};
+ghost use Rattle.structure.specs.Lists.{words};
+ghost use Rattle.structure.specs.Words.{looks, oddFrom, WordsHeld};
+ghost use Rattle.structure.specs.Table.{entry, likeAt, like, heldIn};
+use crate::compare::is_within;
 use crate::slots::len_at;
 use crate::slots::name_at;
 use crate::slots::part_at;
-use crate::slots::slot_at;
+use crate::slots::sort_at;
 use crate::table::TypeTable;
 use crate::table::entry_at;
 use laws::both;
 use pack::Counts;
-
-// A fingerprint with one more item. The modulus is the largest prime below 2^32.
-fn mix(h: u32, name: u32, number: u32) -> u32
-    requires { ⌜ name < 65536 ⌝ }
-    ensures { λ r. ⌜ r ≡ mixed h name number ⌝ }
-{
-    let item = (name as u64) * 4294967296 + (number as u64);
-    (((h as u64) * 65599 + item) % 4294967291) as u32
-}
-
-pub fn list_print(pack: &[u8], c: Counts, same: &[u32; TypeTable::CAPACITY], s: u32) -> u32
-    ensures { λ r. ⌜ r ≡ print (now (pack .entry)) c (entry (now (same .entry))) s ⌝ }
-{
-    let n = len_at(pack, c, s);
-    let mut h = n;
-    let mut m: u32 = 0;
-    while m < n {
-        let name = name_at(pack, c, s, m);
-        let number = entry_at(same, part_at(pack, c, s, m));
-        h = mix(h, name, number);
-        m += 1;
-    }
-    h
-}
 
 fn item_like(
     pack: &[u8],
@@ -80,13 +54,12 @@ fn items_like(
     true
 }
 
-// Whether two lists look the same. The loop is not entered where they are not as long as each other.
+// Whether two lists look the same. The loop is not entered where they are of other sorts.
 pub fn lists_like(pack: &[u8], c: Counts, same: &[u32; TypeTable::CAPACITY], s: u32, t: u32) -> bool
     ensures { λ r. ⌜ r ≡ like (now (pack .entry)) c (entry (now (same .entry))) s t ⌝ }
 {
-    let n = len_at(pack, c, s);
-    if n == len_at(pack, c, t) {
-        items_like(pack, c, same, s, t, n)
+    if sort_at(pack, c, s) == sort_at(pack, c, t) {
+        items_like(pack, c, same, s, t, len_at(pack, c, s))
     } else {
         false
     }
@@ -106,4 +79,54 @@ pub fn list_held(pack: &[u8], c: Counts, marks: &[u32; TypeTable::CAPACITY], s: 
         }
     }
     false
+}
+
+// Whether one of the n words from a on names a marked type.
+fn any_held(look: &[u16; TypeTable::LOOKS], a: usize, n: usize) -> bool
+    requires { ⌜ a + n ≤ looks ⌝ }
+    ensures { λ r. ⌜ r ≡ oddFrom (now (look .entry)) (λ m. a + m) n ⌝ }
+{
+    let mut m: usize = 0;
+    while m < n {
+        if look[a + m] % 2 == 0 {
+            m += 1;
+        } else {
+            return true;
+        }
+    }
+    false
+}
+
+// The same of every second word.
+fn any_second_held(look: &[u16; TypeTable::LOOKS], a: usize, n: usize) -> bool
+    requires { ⌜ a + 2 * n ≤ looks + 1 ⌝ }
+    ensures { λ r. ⌜ r ≡ oddFrom (now (look .entry)) (λ m. a + 2 * m) n ⌝ }
+{
+    let mut m: usize = 0;
+    while m < n {
+        if look[a + 2 * m] % 2 == 0 {
+            m += 1;
+        } else {
+            return true;
+        }
+    }
+    false
+}
+
+// Whether a type of the list is marked, by what is known of its words.
+pub fn words_held(look: &[u16; TypeTable::LOOKS], s: u32, sort: u32) -> bool
+    requires { ⌜ sort < 131072 ⌝ }
+    ensures { λ r. ⌜ WordsHeld (now (look .entry)) s sort r ⌝ }
+{
+    if is_within(s, sort) {
+        let n = (sort / 2) as usize;
+        let start = (s / 2) as usize;
+        if sort % 2 == 1 {
+            any_second_held(look, start + 2, n)
+        } else {
+            any_held(look, start + 1, n)
+        }
+    } else {
+        false
+    }
 }

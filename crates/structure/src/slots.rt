@@ -4,7 +4,7 @@ ghost use Prim.Native.Nat.{_<_};
 ghost use Rattle.laws.specs.Bounded.{Reads};
 ghost use Rattle.pack.specs.Rows.{typeRow};
 ghost use Rattle.structure.specs.Structure.{paired};
-ghost use Rattle.structure.specs.Lists.{listed, slotOf, ofPairs, lenAt, nameAt, partAt};
+ghost use Rattle.structure.specs.Lists.{listed, slotOf, sortOf, ofPairs, lenAt, nameAt, partAt};
 use laws::either;
 use pack::Counts;
 use pack::list_item;
@@ -47,6 +47,13 @@ pub fn len_at(pack: &[u8], c: Counts, s: u32) -> u32
     } else {
         0
     }
+}
+
+// A list's length, and whether it is one of pairs.
+pub fn sort_at(pack: &[u8], c: Counts, s: u32) -> u32
+    ensures { λ r. ⌜ Reads r (sortOf (now (pack .entry)) c s) 131072 ⌝ }
+{
+    2 * len_at(pack, c, s) + s % 2
 }
 
 fn of_pairs(s: u32) -> bool

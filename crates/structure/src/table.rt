@@ -19,6 +19,16 @@ impl TypeTable {
     // And rows are searched in chains; a prime.
     pub const BUCKETS: usize = 4093;
 
+    // Of each list word, what is known of its type, and the word itself.
+    pub const WORDS: usize = 8192;
+
+    pub const LOOKS: usize = 16384;
+
+    // Two links for each row of the trees of lists, and a root for each sort of list.
+    pub const CELLS: usize = 4096;
+
+    pub const SORTS: usize = 16384;
+
     pub fn empty() -> Self
         ensures { λ r. ⌜ Clear (r .same) × Clear (r .marks) ⌝ }
     {

@@ -1,33 +1,41 @@
--- `keep_list`: what is told of the list, stored.
+-- `keep_list`: what is found and told of the list, stored.
 use Prim.{tt}
-use mathlib.Core.Path.{refl}
-use Rattle.structure.proofs.Arrays.{fits, offset, more}
+use mathlib.Core.Path.{_≡_, refl, sym, ap, _∙_}
+use borrow.Author.Needs.{needs}
+use native.Mathlib.Omega.{arith}
+use Rattle.structure.proofs.Forest.{cell-most}
 use Rattle.structure.proofs.numbering.keep_list.Statement.{statement}
 use Rattle.structure.proofs.numbering.keep_list.Tie as tie
 
-slot : tie.Need-element-write-users
-slot c = c .before .before .before .before .before .before .before .before .before .before .before .slot-at .ensures .small
-
-row : tie.Need-element-write-lists
-row c = c .before .before .before .before .before .before .before .before .before .before .before .before .before .pre .0
-
 returns : tie.Need-returns
-returns c = record {
-  slot = _;
-  read = c .before .before .before .before .before .before .before .before .before .before .before .slot-at .ensures;
-  told = c .before .before .before .before .list-facts .ensures;
-  usersSet = refl;
-  listsSet = refl;
-  printsSet = c .chain .ensures .0;
-  heldsSet = refl;
-  chained = c .chain .ensures .1;
-}
+returns c = (
+  record {
+    slot = _;
+    read = c .before .before .before .before .before .before .before .before .before .before .before .before .before .before .before .before .before .before .before .before .before .before .before .slot-at .ensures;
+    sort = _;
+    sorted = c .before .before .before .before .before .before .before .before .before .before .before .before .before .before .before .before .before .before .before .before .before .before .sort-at .ensures .same;
+    found = _;
+    finds = c .before .before .before .before .before .before .before .before .before .before .before .before .before .before .find-row .ensures;
+    told = c .before .before .before .before .before .before .before .before .before .before .before .facts-of .ensures;
+    grown = c .before .before .before .before .grow .ensures .0;
+    usersSet = c .keep-facts .ensures .0;
+    listsSet = c .keep-facts .ensures .1;
+    heldsSet = c .keep-facts .ensures .2;
+  },
+  c .before .before .before .before .grow .ensures .1,
+)
 
-list-facts-requires : tie.Need-list-facts-requires
-list-facts-requires c κs = c .before .before .before .before .before .before .before .before .pre .1
+find-row-requires : tie.Need-find-row-requires
+find-row-requires c κs = (c .before .before .before .before .before .before .before .before .before .before .pre .0, c .before .before .before .before .before .before .before .sort-at .ensures .small, c .before .before .before .before .before .before .before .before .before .before .pre .1, c .before .before .before .before .before .before .before .before .before .before .pre .2, c .before .before .before .before .before .before .before .before .before .before .pre .3)
 
-chain-requires : tie.Need-chain-requires
-chain-requires c κs = c .before .before .before .before .before .before .before .before .before .before .before .before .pre
+facts-of-requires : tie.Need-facts-of-requires
+facts-of-requires c κs = c .before .before .before .before .before .before .before .before .before .before .sort-at .ensures .small
+
+grow-requires : tie.Need-grow-requires
+grow-requires c κs = (c .before .before .before .before .before .before .before .before .before .before .before .before .before .before .before .before .before .before .before .before .pre .0, cell-most (c .before .before .before .before .before .before .before .before .before .find-row .ensures), c .before .before .before .before .before .before .before .before .before .before .before .before .before .before .before .before .before .before .before .before .pre .3)
+
+keep-facts-requires : tie.Need-keep-facts-requires
+keep-facts-requires c κs = (c .before .before .before .before .before .before .before .before .before .before .before .before .before .before .before .before .before .before .before .before .before .before .before .before .pre .0, c .before .before .before .before .before .before .before .before .before .before .before .before .before .before .before .before .before .before .before .before .before .before .slot-at .ensures .small)
 
 pub keep-list-spec : {M : Type 1} → statement M
-keep-list-spec = tie.close (tie.spec (λ c κs. tt) list-facts-requires chain-requires (λ c. more (row c) refl) (λ c. fits (slot c) refl) (λ c. offset (slot c) refl) slot (λ c. offset (row c) refl) row (λ c. offset (row c) refl) row returns)
+keep-list-spec = tie.close (tie.spec (λ c κs. tt) (λ c κs. tt) find-row-requires facts-of-requires grow-requires keep-facts-requires returns)

@@ -2,7 +2,7 @@
 use Prim.{tt}
 use mathlib.Core.Path.{_≡_, refl, sym, _∙_}
 use Rattle.laws.proofs.Told.{eq, ne}
-use Rattle.structure.specs.Table.{hasKey}
+use Rattle.structure.specs.Table.{entry, hasKey}
 use Rattle.structure.specs.Buckets.{bucketOf}
 use Rattle.structure.proofs.Chaining.{Walk, walk-start, walk-next, walk-falls, walk-found, walk-none, key-sorted}
 use borrow.Author.Needs.{needs}
@@ -11,19 +11,19 @@ use Rattle.structure.proofs.rows.row_with_key.Statement.{statement}
 use Rattle.structure.proofs.rows.row_with_key.Tie as tie
 
 abbrev Inv-loop : tie.InvT-loop
-Inv-loop keys heads nexts i key j₀ j = Walk (hasKey keys key) keys (bucketOf key) i j
+Inv-loop keys heads nexts i key j₀ j = Walk (hasKey keys key) (entry keys) (bucketOf key) i j
 
 abbrev μ-loop : tie.MeasureT-loop
 μ-loop keys heads nexts i key j₀ j = j
 
 loop-holds : tie.Need-loop-holds Inv-loop μ-loop
-loop-holds c = rw (c .head-of .ensures) (walk-start (c .before .pre) (key-sorted _ _))
+loop-holds c = rw (c .head-of .ensures) (walk-start (c .before .pre .links) (key-sorted _ _))
 
 loop-again : tie.Need-loop-again Inv-loop μ-loop
-loop-again c = rw (c .entry-at2 .ensures) (walk-next (c .before .before .before .before .before .before .pre) (key-sorted _ _) (c .before .before .before .before .loop .inv) (omega arith) (ne (c .before .before .entry-at .ensures) refl (c .before .if1 .left)))
+loop-again c = rw (c .entry-at2 .ensures) (walk-next (c .before .before .before .before .before .before .pre .links) (key-sorted _ _) (c .before .before .before .before .loop .inv) (omega arith) (ne (c .before .before .entry-at .ensures) refl (c .before .if1 .left)))
 
 loop-less : tie.Need-loop-less Inv-loop μ-loop
-loop-less c = rw (c .entry-at2 .ensures) (walk-falls (c .before .before .before .before .before .before .pre) (key-sorted _ _) (c .before .before .before .before .loop .inv) (omega arith))
+loop-less c = rw (c .entry-at2 .ensures) (walk-falls (c .before .before .before .before .before .before .pre .links) (key-sorted _ _) (c .before .before .before .before .loop .inv) (omega arith))
 
 returns : tie.Need-returns Inv-loop μ-loop
 returns c = walk-found (c .before .before .before .loop .inv) (omega arith) (eq (c .before .entry-at .ensures) refl (c .if1 .taken))
