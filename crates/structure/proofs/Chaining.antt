@@ -8,7 +8,7 @@ use mathlib.Core.List.{List}
 use mathlib.Core.Bool.{Bool, true, false}
 use Prim.Native.Nat.{ℕ, _+_, _-_, _%_, _<_, _≤_}
 use native.Mathlib.Omega.{arith}
-use lib.ListN.{length, set, length-set, replicate, length-replicate}
+use lib.ListN.{length, getD, set, length-set, replicate, length-replicate}
 use lib.Dec.{leb, eqb}
 use borrow.Author.Tests.{leb-true, leb-false, eqb-true}
 use Rattle.laws.specs.Bounded.{get}
@@ -148,6 +148,18 @@ module _ {n : ℕ} {test : ℕ → Bool} {x : ℕ → ℕ} {heads nexts : List �
 
   pub walk-falls : {j : ℕ} → Walk test x b i j → 0 < j → get n nexts (j - 1) < j
   walk-falls {j = j} w p = let l = c .nextLow (j - 1) (omega (arith, w .high)) in omega arith
+
+-- the same from what was read
+module _ {n : ℕ} {test : ℕ → Bool} {x : ℕ → ℕ} {heads nexts : List ℕ} {i b j m : ℕ} (c : Links n x heads nexts i) (s : Sorted test x b) (w : Walk test x b i j)
+    (p : 0 < j) (room : i ≤ n) (e : m ≡ getD nexts (j - 1) 0) where
+  next-is : m ≡ get n nexts (j - 1)
+  next-is = e ∙ get-in n nexts (j - 1) (omega (arith, w .high))
+
+  pub walk-on : test (j - 1) ≡ false → Walk test x b i m
+  walk-on f = rw next-is (walk-next c s w p f)
+
+  pub walk-less : m < j
+  walk-less = rw next-is (walk-falls c s w p)
 
 pub walk-found : {test : ℕ → Bool} {x : ℕ → ℕ} {b i j : ℕ} → Walk test x b i j → 0 < j → test (j - 1) ≡ true → Hit test i (j - 1)
 walk-found w p t = let h = w .high in record { high = omega arith; some = λ l. t; none = λ l. absurd (omega arith) }

@@ -1,11 +1,11 @@
 // A row's key and mark, from the numbers and marks of its parts.
 ghost use mathlib.Core.Path.{_≡_};
-ghost use Prim.Native.Nat.{_<_};
+ghost use Prim.Native.Nat.{_<_, _≤_};
 ghost use lib.Dec.{ltb};
 ghost use Rattle.laws.specs.Choice.{pick};
 ghost use Rattle.laws.specs.Bounded.{Reads};
 ghost use Rattle.pack.specs.Rows.{typeRow};
-ghost use Rattle.structure.specs.Structure.{numbered, numberOf, isVarKind};
+ghost use Rattle.structure.specs.Structure.{rows, numbered, numberOf, isVarKind};
 ghost use Rattle.structure.specs.Table.{entry, firstOf, keyOf, markOf, hasKey, Hit};
 ghost use Rattle.structure.specs.Buckets.{Chained};
 use crate::buckets::head_of;
@@ -76,15 +76,15 @@ pub fn row_with_key(
     i: u32,
     key: u32,
 ) -> u32
-    requires { ⌜ Chained (now keys) (now heads) (now nexts) i ⌝ }
+    requires { ⌜ (i ≤ rows) × Chained (now keys) (now heads) (now nexts) i ⌝ }
     ensures { λ r. ⌜ Hit (hasKey (now (keys .entry)) key) i r ⌝ }
 {
     let mut j = head_of(heads, key);
     while 0 < j {
-        if entry_at(keys, j - 1) == key {
+        if keys[(j - 1) as usize] == key {
             return j - 1;
         }
-        j = entry_at(nexts, j - 1);
+        j = nexts[(j - 1) as usize];
     }
     i
 }

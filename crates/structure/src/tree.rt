@@ -1,6 +1,7 @@
 // The walk of a list through the tree of its sort.
 ghost use mathlib.Core.Path.{_≡_};
-ghost use Prim.Native.Nat.{_<_, _*_, _/_};
+ghost use Prim.Native.Nat.{_<_, _≤_, _*_, _/_};
+ghost use Rattle.structure.specs.Structure.{rows};
 ghost use Rattle.laws.specs.Bounded.{Reads};
 ghost use Rattle.structure.specs.Words.{lookAt};
 ghost use Rattle.structure.specs.Buckets.{Chained};
@@ -88,7 +89,7 @@ fn turn_at(
     s: u32,
     d: u32,
 ) -> u32
-    requires { ⌜ (d < cellsLen) × Small (now cells) × Chained (now keys) (now heads) (now nexts) i ⌝ }
+    requires { ⌜ (d < cellsLen) × Small (now cells) × Chained (now keys) (now heads) (now nexts) i × (i ≤ rows) ⌝ }
     ensures { λ r. ⌜ Turned (lookAt (now (look .entry)) s) (now (cells .entry)) (now (tests .entry)) (now (keys .entry)) i d r ⌝ }
 {
     let g = cell_at(cells, d);

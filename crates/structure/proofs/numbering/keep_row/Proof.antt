@@ -1,6 +1,7 @@
 -- `keep_row`: the key, the number and the mark, stored.
 use Prim.{tt}
 use mathlib.Core.Path.{refl}
+use native.Mathlib.Omega.{arith}
 use Rattle.structure.proofs.Arrays.{offset}
 use Rattle.structure.proofs.numbering.keep_row.Statement.{statement}
 use Rattle.structure.proofs.numbering.keep_row.Tie as tie
@@ -25,7 +26,7 @@ returns c = record {
 }
 
 row-with-key-requires : tie.Need-row-with-key-requires
-row-with-key-requires c κs = c .before .before .before .before .before .before .pre .1
+row-with-key-requires c κs = (omega (arith, c .before .before .before .before .before .before .pre .0), c .before .before .before .before .before .before .pre .1)
 
 chain-requires : tie.Need-chain-requires
 chain-requires c κs = c .before .before .before .before .before .before .before .before .before .before .before .before .before .before .pre

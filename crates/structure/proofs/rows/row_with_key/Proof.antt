@@ -1,12 +1,14 @@
 -- No row from j on passes.
 use Prim.{tt}
-use mathlib.Core.Path.{_≡_, refl, sym, _∙_}
-use Rattle.laws.proofs.Told.{eq, ne}
-use Rattle.structure.specs.Table.{entry, hasKey}
-use Rattle.structure.specs.Buckets.{bucketOf}
-use Rattle.structure.proofs.Chaining.{Walk, walk-start, walk-next, walk-falls, walk-found, walk-none, key-sorted}
+use mathlib.Core.Path.{_≡_, refl, sym, ap, _∙_}
 use borrow.Author.Needs.{needs}
 use native.Mathlib.Omega.{arith}
+use Rattle.laws.proofs.Bounded.{get-in}
+use Rattle.laws.proofs.Told.{eq, ne}
+use Rattle.structure.specs.Structure.{rows}
+use Rattle.structure.specs.Table.{entry, hasKey}
+use Rattle.structure.specs.Buckets.{bucketOf}
+use Rattle.structure.proofs.Chaining.{Walk, walk-start, walk-on, walk-less, walk-found, walk-none, key-sorted}
 use Rattle.structure.proofs.rows.row_with_key.Statement.{statement}
 use Rattle.structure.proofs.rows.row_with_key.Tie as tie
 
@@ -17,19 +19,31 @@ abbrev μ-loop : tie.MeasureT-loop
 μ-loop keys heads nexts i key j₀ j = j
 
 loop-holds : tie.Need-loop-holds Inv-loop μ-loop
-loop-holds c = rw (c .head-of .ensures) (walk-start (c .before .pre .links) (key-sorted _ _))
+loop-holds c = rw (c .head-of .ensures) (walk-start (c .before .pre .1 .links) (key-sorted _ _))
 
 loop-again : tie.Need-loop-again Inv-loop μ-loop
-loop-again c = rw (c .entry-at2 .ensures) (walk-next (c .before .before .before .before .before .before .pre .links) (key-sorted _ _) (c .before .before .before .before .loop .inv) (omega arith) (ne (c .before .before .entry-at .ensures) refl (c .before .if1 .left)))
+loop-again c = walk-on (c .before .before .before .before .before .before .pre .1 .links) (key-sorted _ _) (c .before .before .before .before .loop .inv) (omega (arith, c .before .before .before .loop-test .taken)) (c .before .before .before .before .before .before .pre .0) refl (ne (get-in rows _ _ (omega (arith, c .before .before .before .before .loop .inv .high, c .before .before .before .before .before .before .pre .0, c .before .before .before .loop-test .taken))) refl (c .before .if1 .left))
 
 loop-less : tie.Need-loop-less Inv-loop μ-loop
-loop-less c = rw (c .entry-at2 .ensures) (walk-falls (c .before .before .before .before .before .before .pre .links) (key-sorted _ _) (c .before .before .before .before .loop .inv) (omega arith))
+loop-less c = walk-less (c .before .before .before .before .before .before .pre .1 .links) (key-sorted _ _) (c .before .before .before .before .loop .inv) (omega (arith, c .before .before .before .loop-test .taken)) (c .before .before .before .before .before .before .pre .0) refl
 
 returns : tie.Need-returns Inv-loop μ-loop
-returns c = walk-found (c .before .before .before .loop .inv) (omega arith) (eq (c .before .entry-at .ensures) refl (c .if1 .taken))
+returns c = walk-found (c .before .before .before .loop .inv) (omega (arith, c .before .before .loop-test .taken)) (eq (get-in rows _ _ (omega (arith, c .before .before .before .loop .inv .high, c .before .before .before .before .before .pre .0, c .before .before .loop-test .taken))) refl (c .if1 .taken))
 
 returns-2 : tie.Need-returns-2 Inv-loop μ-loop
-returns-2 c = walk-none (c .before .loop .inv) (omega arith)
+returns-2 c = walk-none (c .before .loop .inv) (omega (arith, c .loop-test .left))
+
+mul-if1 : tie.Need-mul-if1 Inv-loop μ-loop
+mul-if1 c = omega (arith, c .before .loop .inv .high, c .before .before .before .pre .0, c .loop-test .taken)
+
+element-copy-out-if1 : tie.Need-element-copy-out-if1 Inv-loop μ-loop
+element-copy-out-if1 c = omega (arith, c .before .loop .inv .high, c .before .before .before .pre .0, c .loop-test .taken)
+
+mul-j : tie.Need-mul-j Inv-loop μ-loop
+mul-j c = omega (arith, c .before .before .before .loop .inv .high, c .before .before .before .before .before .pre .0, c .before .before .loop-test .taken)
+
+element-copy-out-j : tie.Need-element-copy-out-j Inv-loop μ-loop
+element-copy-out-j c = omega (arith, c .before .before .before .loop .inv .high, c .before .before .before .before .before .pre .0, c .before .before .loop-test .taken)
 
 pub row-with-key-spec : {M : Type 1} → statement M
-row-with-key-spec = tie.close (tie.spec Inv-loop μ-loop (λ c κs. tt) loop-holds (λ c. search needs) (λ c κs. tt) (λ c. search needs) returns (λ c. search needs) (λ c κs. tt) loop-less loop-again returns-2)
+row-with-key-spec = tie.close (tie.spec Inv-loop μ-loop (λ c κs. tt) loop-holds (λ c. search needs) (λ c. search needs) mul-if1 element-copy-out-if1 (λ c. search needs) returns (λ c. search needs) (λ c. search needs) mul-j element-copy-out-j loop-less loop-again returns-2)

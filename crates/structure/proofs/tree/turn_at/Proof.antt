@@ -29,7 +29,7 @@ member-key-requires : tie.Need-member-key-requires
 member-key-requires c κs = (omega (arith, c .before .before .before .before .cell-at .ensures .same, c .before .before .before .before .before .pre .1 .high (c .before .before .before .before .before .args .d)), c .look-at .ensures .small)
 
 row-with-key-requires : tie.Need-row-with-key-requires
-row-with-key-requires c κs = c .before .before .before .before .before .before .pre .2
+row-with-key-requires c κs = (c .before .before .before .before .before .before .pre .3, c .before .before .before .before .before .before .pre .2)
 
 pub turn-at-spec : {M : Type 1} → statement M
 turn-at-spec = tie.close (tie.spec cell-at-requires (λ c. search needs) (λ c. search needs) mul-test low (λ c κs. tt) look-at-requires (λ c. search needs) member-key-requires row-with-key-requires returns returns-2)

@@ -34,7 +34,7 @@ pass-on-requires : tie.Need-pass-on-requires Inv-loop μ-loop
 pass-on-requires c κs = (omega (arith, c .pre .0, c .pre .1 .most), c .pre .1 .small)
 
 turn-at-requires : tie.Need-turn-at-requires Inv-loop μ-loop
-turn-at-requires c κs = (c .pass-on .ensures .inside, c .before .pre .1 .small, c .before .pre .2)
+turn-at-requires c κs = (c .pass-on .ensures .inside, c .before .pre .1 .small, c .before .pre .2, c .before .pre .1 .most)
 
 mul-pass-on-2 : tie.Need-mul-pass-on-2 Inv-loop μ-loop
 mul-pass-on-2 c = omega (arith, c .loop-test .taken, c .before .before .before .before .pre .1 .most)
@@ -43,7 +43,7 @@ pass-on-requires-2 : tie.Need-pass-on-requires-2 Inv-loop μ-loop
 pass-on-requires-2 c κs = (member-inside (c .before .before .before .before .pre .1) (c .before .loop .inv) (c .loop-test .taken), c .before .before .before .before .pre .1 .small)
 
 turn-at-requires-2 : tie.Need-turn-at-requires-2 Inv-loop μ-loop
-turn-at-requires-2 c κs = (c .pass-on2 .ensures .inside, c .before .before .before .before .before .pre .1 .small, c .before .before .before .before .before .pre .2)
+turn-at-requires-2 c κs = (c .pass-on2 .ensures .inside, c .before .before .before .before .before .pre .1 .small, c .before .before .before .before .before .pre .2, c .before .before .before .before .before .pre .1 .most)
 
 pub walk-spec : {M : Type 1} → statement M
 walk-spec = tie.close (tie.spec Inv-loop μ-loop mul-pass-on pass-on-requires turn-at-requires loop-holds mul-pass-on-2 pass-on-requires-2 turn-at-requires-2 loop-less loop-again returns)
