@@ -1,7 +1,6 @@
 -- Tests of the places of a list: the steps of a loop that looks for one, and of one that counts them.
 --     AnyLeft, any-goes, any-stops, any-ends        whether a place passes
 --     Counted, count-none, count-more, count-all    how many do
---     tally-few                                     at most all
 --     stored-none, stored-some                      what is stored as x+1
 --     both-told                                     a test of both
 -- Assumes nothing.
@@ -12,7 +11,9 @@ use native.Mathlib.Numerals.{add-one}
 use native.Mathlib.Omega.{arith}
 use Rattle.laws.specs.Lists.{bit}
 use Rattle.laws.proofs.First.{Left, goes, stops, ends}
-use Rattle.members.specs.Places.{any, tally, perhaps}
+use Rattle.names.specs.Tally.{tally}
+use Rattle.names.proofs.Tally.{bit-few}
+use Rattle.members.specs.Places.{any, perhaps}
 
 -- what is left, from place i on, says what the whole says
 pub record AnyLeft (test : ℕ → Bool) (i n : ℕ) (whole : Bool) : Type 0 where
@@ -42,10 +43,6 @@ pub count-none : (test : ℕ → Bool) (n : ℕ) → Counted test n 0 0
 unfolding tally
 count-none test n = record { low = omega arith; few = omega arith; counts = refl }
 
-bit-few : (b : Bool) → bit b ≤ 1
-bit-few true = omega arith
-bit-few false = omega arith
-
 module _ {test : ℕ → Bool} {n k r : ℕ} (inv : Counted test n k r) where
   pub count-more : {b : Bool} {x : ℕ} → k < n → x ≡ bit b → b ≡ test k → Counted test n (k + 1) (r + x)
   unfolding tally
@@ -56,11 +53,6 @@ module _ {test : ℕ → Bool} {n k r : ℕ} (inv : Counted test n k r) where
 
   pub count-all : n ≤ k → r ≡ tally test n
   count-all l = let e : k ≡ n = omega (arith, inv .low) in inv .counts ∙ ap (tally test) e
-
-pub tally-few : (test : ℕ → Bool) (n : ℕ) → tally test n ≤ n
-unfolding tally
-tally-few test zero = omega arith
-tally-few test (suc n) = omega (arith, tally-few test n, bit-few (test n))
 
 module _ {A : Type 0} {z : A} (none : A) (some : ℕ → A) where
   pub stored-none : {x : ℕ} (y : ℕ) → x ≡ y → x ≡ 0 → z ≡ none → z ≡ perhaps none some y

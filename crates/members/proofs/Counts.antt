@@ -2,19 +2,24 @@
 --     any-none, none-any       no place passes
 --     any-found, found-any     one does
 --     tally-zero, zero-tally   none is counted
+--     any-or                   one passes one test or the other
 --     tally-full               all are
+--     not-bit                  a test stored as a number
 -- Assumes nothing.
 use mathlib.Core.Path.{_≡_, refl, sym, ap, _∙_}
-use mathlib.Core.Bool.{Bool, true, false, not}
+use mathlib.Core.Bool.{Bool, true, false, not, _||_}
 use Prim.Native.Nat.{ℕ, zero, suc, _<_}
 use native.Mathlib.Omega.{arith}
+use lib.Dec.{eqb}
 use borrow.Author.Tests.{not-true, not-false}
 use Rattle.laws.specs.First.{until}
 use Rattle.laws.specs.Lists.{bit}
 use Rattle.laws.proofs.Choice.{by-test, by-eq, fails}
+use Rattle.laws.proofs.Tests.{or-true}
 use Rattle.laws.proofs.First.{Until, until-is, each, none-is}
 use Rattle.laws.proofs.Members.{by-le}
-use Rattle.members.specs.Places.{any, tally}
+use Rattle.names.specs.Tally.{tally}
+use Rattle.members.specs.Places.{any}
 
 module _ (test : ℕ → Bool) (n : ℕ) where
   pub any-none : any test n ≡ false → (k : ℕ) → k < n → test k ≡ false
@@ -36,6 +41,20 @@ module _ (test : ℕ → Bool) (n : ℕ) where
     where
       u : Until (λ j. not (test j)) 0 n (until (λ j. not (test j)) 0 n)
       u = until-is (λ j. not (test j)) 0 n (omega arith)
+
+-- a place that passes one test or the other
+pub any-or : (f g h : ℕ → Bool) (n : ℕ) → ((k : ℕ) → h k ≡ (f k || g k)) → any h n ≡ (any f n || any g n)
+any-or f g h n r =
+    by-test (any f n)
+    (λ t. let x = any-found f n t in rw t (found-any h n (x .0) (x .1) (r (x .0) ∙ rw (x .2))))
+    (λ a.
+    by-test (any g n)
+    (λ t. let x = any-found g n t in rw (a, t) (found-any h n (x .0) (x .1) (r (x .0) ∙ rw (x .2) (or-true (f (x .0))))))
+    (λ b. rw (a, b) (none-any h n (λ k l. r k ∙ rw (any-none f n a k l, any-none g n b k l)))))
+
+pub not-bit : (b : Bool) → not (eqb (bit b) 0) ≡ b
+not-bit true = refl
+not-bit false = refl
 
 bit-zero : (b : Bool) → bit b ≡ 0 → b ≡ false
 bit-zero true e = absurd (omega arith)

@@ -2,7 +2,6 @@ pub mod Counting
 pub mod Joins
 pub mod Counts
 pub mod Finding
-pub mod Noting
 pub mod Promises
 pub mod Small
 mod Worked

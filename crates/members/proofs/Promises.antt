@@ -28,7 +28,7 @@ use Rattle.members.specs.Marks.{isMarked}
 use Rattle.members.specs.Field.{fieldIn, fieldOfDefinition, fieldOfType, accessedBy}
 use Rattle.members.specs.declared.answer.Accessed.{Accessed}
 use Rattle.members.specs.declared.answer.Accessed.the-variants as found
-use Rattle.members.proofs.Noting.{not-bit}
+use Rattle.members.proofs.Counts.{not-bit}
 
 -- ---- marks
 

@@ -1,10 +1,9 @@
-// What a resolved type names, its members by name, the names that a list has, and what module 4 of document 01 decides of a field without
+// What a resolved type names, its members by name, and what module 4 of document 01 decides of a field without
 // looking into its parts: refusals 32, 35 and 36.
 mod access;
 mod answer;
 mod lists;
 mod marks;
-mod names;
 mod types;
 
 pub use access::accessed;
@@ -15,10 +14,5 @@ pub use lists::name_at;
 pub use marks::any_field_marked;
 pub use marks::any_marked;
 pub use marks::is_marked;
-pub use names::Names;
-pub use names::has_name;
-pub use names::is_noted;
-pub use names::note_name;
-pub use names::note_names;
 pub use types::is_list;
 pub use types::named;

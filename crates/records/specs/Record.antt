@@ -9,7 +9,7 @@ use Rattle.pack.specs.Lists.{listLen, pairOf}
 use Rattle.pack.specs.Rows.{definitionRow}
 use Rattle.pack.specs.declared.counts.Counts.{Counts}
 use Rattle.pack.specs.declared.rows.DefinitionRow.{DefinitionRow}
-use Rattle.members.specs.Places.{tally}
+use Rattle.names.specs.Tally.{tally}
 use Rattle.members.specs.Types.{recordDefinition}
 use Rattle.members.specs.Lookup.{nameAt, isMember}
 use Rattle.members.specs.Marks.{anyFieldMarked}

@@ -15,4 +15,4 @@ unfolding accessedBy
 returns-2 c = stored-some _ _ _ (c .before .before .before .named .ensures) (c .before .before .if1 .left) (rw (c .before .definition-row .ensures) at (c .field-of-definition .ensures))
 
 pub accessed-spec : {M : Type 1} → statement M
-accessed-spec = tie.close (tie.spec (λ c κs. tt) (λ c κs. tt) (λ c. search needs) (λ c κs. tt) (λ c κs. tt) returns returns-2)
+accessed-spec = tie.close (tie.spec (λ c κs. tt) (λ c κs. search needs) (λ c. search needs) (λ c κs. tt) (λ c κs. search needs) returns returns-2)

@@ -4,6 +4,7 @@ use mathlib.Core.Path.{refl}
 use Rattle.laws.proofs.Choice.{yes, no}
 use Rattle.laws.proofs.Told.{eq, ne}
 use Rattle.members.specs.Field.{fieldOfDefinition}
+use borrow.Author.Needs.{needs}
 use Rattle.members.proofs.access.field_of_definition.Statement.{statement}
 use Rattle.members.proofs.access.field_of_definition.Tie as tie
 
@@ -20,4 +21,4 @@ unfolding fieldOfDefinition
 returns-3 c = no _ _ _ (ne refl refl (c .if1 .left)) refl
 
 pub field-of-definition-spec : {M : Type 1} → statement M
-field-of-definition-spec = tie.close (tie.spec (λ c κs. tt) returns returns-2 returns-3)
+field-of-definition-spec = tie.close (tie.spec (λ c κs. search needs) returns returns-2 returns-3)

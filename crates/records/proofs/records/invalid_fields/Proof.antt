@@ -1,5 +1,6 @@
 use Prim.{tt}
 use Rattle.records.specs.Record.{invalidFields}
+use borrow.Author.Needs.{needs}
 use Rattle.records.proofs.records.invalid_fields.Statement.{statement}
 use Rattle.records.proofs.records.invalid_fields.Tie as tie
 
@@ -8,4 +9,4 @@ unfolding invalidFields
 returns c = c .strangers .ensures
 
 pub invalid-fields-spec : {M : Type 1} → statement M
-invalid-fields-spec = tie.close (tie.spec (λ c κs. tt) returns)
+invalid-fields-spec = tie.close (tie.spec (λ c κs. search needs) returns)

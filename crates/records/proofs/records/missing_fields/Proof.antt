@@ -1,5 +1,6 @@
 use Prim.{tt}
 use Rattle.records.specs.Record.{missingFields}
+use borrow.Author.Needs.{needs}
 use Rattle.records.proofs.records.missing_fields.Statement.{statement}
 use Rattle.records.proofs.records.missing_fields.Tie as tie
 
@@ -8,4 +9,4 @@ unfolding missingFields
 returns c = c .strangers .ensures
 
 pub missing-fields-spec : {M : Type 1} → statement M
-missing-fields-spec = tie.close (tie.spec (λ c κs. tt) returns)
+missing-fields-spec = tie.close (tie.spec (λ c κs. search needs) returns)

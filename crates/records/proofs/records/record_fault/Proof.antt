@@ -3,6 +3,7 @@ use Prim.{tt}
 use mathlib.Core.Path.{refl, sym, _∙_}
 use Rattle.laws.proofs.Choice.{yes, no}
 use Rattle.records.specs.Record.{recordFault}
+use borrow.Author.Needs.{needs}
 use Rattle.records.proofs.records.record_fault.Statement.{statement}
 use Rattle.records.proofs.records.record_fault.Tie as tie
 
@@ -15,4 +16,4 @@ unfolding recordFault
 returns-2 c = no _ _ _ (rw (c .before .before .definition-row .ensures) at (sym (c .before .is-plain-record .ensures) ∙ c .if1 .left)) refl
 
 pub record-fault-spec : {M : Type 1} → statement M
-record-fault-spec = tie.close (tie.spec (λ c κs. tt) (λ c κs. tt) (λ c κs. tt) returns returns-2)
+record-fault-spec = tie.close (tie.spec (λ c κs. tt) (λ c κs. tt) (λ c κs. search needs) returns returns-2)
