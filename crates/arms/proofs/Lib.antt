@@ -1,3 +1,3 @@
-pub mod Noting
+pub mod Covering
 pub mod Promises
 mod Worked

@@ -22,7 +22,7 @@ use Rattle.pack.specs.Lists.{listLen, listItem}
 use Rattle.pack.specs.declared.counts.Counts.{Counts}
 use Rattle.members.specs.Lookup.{nameAt, isMember, memberOf}
 use Rattle.members.specs.Marks.{anyMarked}
-use Rattle.members.proofs.Counting.{tally-few}
+use Rattle.names.proofs.Tally.{tally-few}
 use Rattle.members.proofs.Counts.{none-any, found-any, any-found, tally-zero, zero-tally, tally-full}
 use Rattle.arms.specs.Match.{wild, payloadFault, armFault, covers, covered, missingVariants}
 

@@ -8,7 +8,8 @@ use Rattle.laws.specs.Bounded.{get}
 use Rattle.pack.specs.Read.{byteAt, wordAt, row32}
 use Rattle.pack.specs.Rows.{typeRow, definitionRow}
 use Rattle.pack.specs.Lists.{listWord, listLen, listItem, pairOf}
-use Rattle.members.specs.Places.{any, tally}
+use Rattle.names.specs.Tally.{tally}
+use Rattle.members.specs.Places.{any}
 use Rattle.members.specs.Types.{isRow, namedBy}
 use Rattle.members.specs.Lookup.{isMember, memberOf}
 use Rattle.members.specs.Marks.{isMarked, anyMarked}

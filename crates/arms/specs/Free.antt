@@ -1,9 +1,8 @@
--- What an arm without a guard covers by name: so that the names of all arms can be noted at once.
+-- What an arm without a guard covers by name: so that the arms of one name can be asked for.
 use mathlib.Core.List.{List}
 use mathlib.Core.Bool.{Bool, _&&_}
-use Prim.Native.Nat.{ℕ, _+_, _*_}
+use Prim.Native.Nat.{ℕ, _+_, _*_, _%_}
 use lib.Dec.{eqb}
-use Rattle.laws.specs.Choice.{pick}
 use Rattle.pack.specs.Lists.{listItem}
 use Rattle.pack.specs.declared.counts.Counts.{Counts}
 
@@ -11,9 +10,6 @@ use Rattle.pack.specs.declared.counts.Counts.{Counts}
 abbrev pub armHas : List ℕ → Counts → ℕ → ℕ → ℕ → Bool
 armHas p c arms x j = eqb (listItem p c arms (4 * j + 2)) 0 && eqb (listItem p c arms (4 * j)) x
 
--- what arm j covers by name, and what is no name where it has a guard
-abbrev pub nobody : ℕ
-nobody = 65536
-
-unfoldable pub freeName : List ℕ → Counts → ℕ → ℕ → ℕ
-freeName p c arms j = pick (eqb (listItem p c arms (4 * j + 2)) 0) (listItem p c arms (4 * j)) nobody
+-- item 2k is the first word of an arm, which has no guard
+unfoldable pub isFree : List ℕ → Counts → ℕ → ℕ → Bool
+isFree p c arms k = eqb (k % 2) 0 && eqb (listItem p c arms (2 * k + 2)) 0

@@ -8,7 +8,8 @@ use Rattle.pack.specs.Lists.{listLen, listItem}
 use Rattle.pack.specs.Rows.{definitionRow}
 use Rattle.pack.specs.declared.counts.Counts.{Counts}
 use Rattle.pack.specs.declared.rows.DefinitionRow.{DefinitionRow}
-use Rattle.members.specs.Places.{any, tally, perhaps}
+use Rattle.names.specs.Tally.{tally}
+use Rattle.members.specs.Places.{any, perhaps}
 use Rattle.members.specs.Types.{enumDefinition, namedBy}
 use Rattle.members.specs.Lookup.{nameAt, isMember, memberOf}
 use Rattle.members.specs.Marks.{anyMarked}

@@ -1,27 +1,27 @@
 // A match: what its examinee is, what is wrong with an arm, and which variants no arm covers.
 ghost use mathlib.Core.Path.{_≡_};
+ghost use mathlib.Core.Bool.{false};
 ghost use Prim.Native.Nat.{_<_};
 ghost use Rattle.pack.specs.Lists.{listLen};
-ghost use Rattle.members.specs.Names.{blank, Noted};
-ghost use Rattle.arms.specs.Free.{armHas, freeName};
-ghost use Rattle.arms.specs.Match.{subjectFor, subjectOf, payloadFault, armFault, covers as coversOf, covered as coveredBy, missingVariants};
+ghost use Rattle.names.specs.Index.{Indexed};
+ghost use Rattle.members.specs.Places.{any};
+ghost use Rattle.arms.specs.Free.{armHas, isFree};
+ghost use Rattle.arms.specs.Match.{wild, subjectFor, subjectOf, payloadFault, armFault, missingVariants};
 use crate::answer::Subject;
 use laws::both;
-use laws::either;
 use laws::flag;
 use laws::unless;
-use members::Names;
 use members::any_marked;
-use members::is_noted;
 use members::name_at;
 use members::named;
-use members::note_name;
+use names::NameIndex;
+use names::find_pair;
+use names::next_item;
 use pack::Counts;
 use pack::DefinitionRow;
 use pack::definition_row;
 use pack::list_item;
 use pack::list_len;
-use pack::pair_of;
 use structure::TypeTable;
 
 // The kind of an enum definition.
@@ -29,9 +29,6 @@ const ENUM: u32 = 0;
 
 // What stands for a variant's name in an arm of `_`.
 const WILD: u32 = 16383;
-
-// More than any name.
-const NOBODY: u32 = 65536;
 
 fn subject_for(row: DefinitionRow) -> Subject
     ensures { λ r. ⌜ r ≡ subjectFor row ⌝ }
@@ -82,18 +79,20 @@ fn payload_fault(
 pub fn arm_fault(
     pack: &[u8],
     c: Counts,
+    names: &[u16; NameIndex::CAPACITY],
     marks: &[u32; TypeTable::CAPACITY],
     list: u32,
     name: u32,
     payload: u32,
 ) -> u32
+    requires { ⌜ Indexed (now pack) c (now names) ⌝ }
     ensures { λ r. ⌜ r ≡ armFault (now (pack .entry)) c (now (marks .entry)) list name payload ⌝ }
 {
     if name == WILD {
         0
     } else {
         let n = list_len(pack, c, list);
-        let k = pair_of(pack, c, list, name);
+        let k = find_pair(pack, c, names, list, name);
         if k < n {
             let fields = list_item(pack, c, list, 2 * k + 1);
             payload_fault(pack, c, marks, fields, payload)
@@ -103,76 +102,53 @@ pub fn arm_fault(
     }
 }
 
-// Names are noted, below; what is no name is asked of each arm.
-
-// Whether arm j, without a guard, is of `_` or of that name.
-fn covers(pack: &[u8], c: Counts, arms: u32, name: u32, j: u32) -> bool
-    requires { ⌜ j < 65536 ⌝ }
-    ensures { λ r. ⌜ r ≡ coversOf (now (pack .entry)) c arms name j ⌝ }
+// Whether item 2k of the arms is the name of one that has no guard.
+fn is_free(pack: &[u8], c: Counts, arms: u32, k: u32) -> bool
+    requires { ⌜ k < 131072 ⌝ }
+    ensures { λ r. ⌜ r ≡ isFree (now (pack .entry)) c arms k ⌝ }
 {
-    let guard = list_item(pack, c, arms, 4 * j + 2);
-    let pattern = list_item(pack, c, arms, 4 * j);
-    both(guard == 0, either(pattern == WILD, pattern == name))
+    let guard = list_item(pack, c, arms, 2 * k + 2);
+    both(k % 2 == 0, guard == 0)
 }
 
-fn covered(pack: &[u8], c: Counts, arms: u32, name: u32) -> bool
-    ensures { λ r. ⌜ r ≡ coveredBy (now (pack .entry)) c arms name ⌝ }
+// Whether an arm without a guard has that name, or that of `_`.
+fn has_free(
+    pack: &[u8],
+    c: Counts,
+    names: &[u16; NameIndex::CAPACITY],
+    arms: u32,
+    name: u32,
+) -> bool
+    requires { ⌜ Indexed (now pack) c (now names) ⌝ }
+    ensures { λ r. ⌜ r ≡ any (armHas (now (pack .entry)) c arms name) (listLen (now (pack .entry)) c arms) ⌝ }
 {
-    let n = list_len(pack, c, arms);
-    let mut j = 0;
-    while j < n {
-        if covers(pack, c, arms, name, j) {
+    let n = 2 * list_len(pack, c, arms);
+    let mut k = next_item(pack, c, names, arms, 0, n, name);
+    while k < n {
+        if is_free(pack, c, arms, k) {
             return true;
         }
-        j += 1;
+        k = next_item(pack, c, names, arms, k + 1, n, name);
     }
     false
 }
 
-// What arm j covers by name; no name where it has a guard.
-fn free_name(pack: &[u8], c: Counts, arms: u32, j: u32) -> u32
-    requires { ⌜ j < 65536 ⌝ }
-    ensures { λ r. ⌜ r ≡ freeName (now (pack .entry)) c arms j ⌝ }
-{
-    let guard = list_item(pack, c, arms, 4 * j + 2);
-    let pattern = list_item(pack, c, arms, 4 * j);
-    unless(guard == 0, NOBODY, pattern)
-}
-
-// The names of arms without a guard.
-fn note_arms(pack: &[u8], c: Counts, arms: u32, marks: &mut [u8; Names::CAPACITY])
-    requires { ⌜ now marks ≡ blank ⌝ }
-    ensures { λ r. ⌜ Noted (armHas (now (pack .entry)) c arms) (listLen (now (pack .entry)) c arms) (now (marks .exit)) ⌝ }
-{
-    let n = list_len(pack, c, arms);
-    let mut j = 0;
-    while j < n {
-        note_name(marks, free_name(pack, c, arms, j));
-        j += 1;
-    }
-}
-
-// Whether an arm covers the name, where their names are noted.
-fn is_covered(pack: &[u8], c: Counts, arms: u32, marks: &[u8; Names::CAPACITY], name: u32) -> bool
-    requires { ⌜ Noted (armHas (now pack) c arms) (listLen (now pack) c arms) (now marks) ⌝ }
-    ensures { λ r. ⌜ r ≡ coveredBy (now (pack .entry)) c arms name ⌝ }
-{
-    if (name as usize) < Names::CAPACITY {
-        either(is_noted(marks, WILD), is_noted(marks, name))
-    } else {
-        covered(pack, c, arms, name)
-    }
-}
-
-fn count_missing(pack: &[u8], c: Counts, list: u32, arms: u32, marks: &[u8; Names::CAPACITY]) -> u32
-    requires { ⌜ Noted (armHas (now pack) c arms) (listLen (now pack) c arms) (now marks) ⌝ }
+// How many variants no arm has, where none is of `_` without a guard.
+fn count_missing(
+    pack: &[u8],
+    c: Counts,
+    names: &[u16; NameIndex::CAPACITY],
+    list: u32,
+    arms: u32,
+) -> u32
+    requires { ⌜ Indexed (now pack) c (now names) × (any (armHas (now pack) c arms wild) (listLen (now pack) c arms) ≡ false) ⌝ }
     ensures { λ r. ⌜ r ≡ missingVariants (now (pack .entry)) c list arms ⌝ }
 {
     let n = list_len(pack, c, list);
     let mut missing = 0;
     let mut k = 0;
     while k < n {
-        let met = is_covered(pack, c, arms, marks, name_at(pack, c, list, k));
+        let met = has_free(pack, c, names, arms, name_at(pack, c, list, k));
         missing += flag(!met);
         k += 1;
     }
@@ -180,14 +156,19 @@ fn count_missing(pack: &[u8], c: Counts, list: u32, arms: u32, marks: &[u8; Name
 }
 
 // How many variants no arm covers.
-pub fn missing_variants(pack: &[u8], c: Counts, list: u32, arms: u32) -> u32
+pub fn missing_variants(
+    pack: &[u8],
+    c: Counts,
+    names: &[u16; NameIndex::CAPACITY],
+    list: u32,
+    arms: u32,
+) -> u32
+    requires { ⌜ Indexed (now pack) c (now names) ⌝ }
     ensures { λ r. ⌜ r ≡ missingVariants (now (pack .entry)) c list arms ⌝ }
 {
-    let mut free = Names::empty();
-    note_arms(pack, c, arms, &mut free.marks);
-    if is_noted(&free.marks, WILD) {
+    if has_free(pack, c, names, arms, WILD) {
         0
     } else {
-        count_missing(pack, c, list, arms, &free.marks)
+        count_missing(pack, c, names, list, arms)
     }
 }

@@ -3,6 +3,7 @@
 --     key-name, name-key     a word of a name's key is that name, at a place of that parity; and the other way round
 --     item-low, item-found, item-none  the first item
 --     pair-is                the first pair
+--     next-is                where the next item stands
 -- Assumes nothing.
 use mathlib.Core.Path.{_≡_, refl, sym, ap, _∙_}
 use mathlib.Core.List.{List}
@@ -101,3 +102,7 @@ module _ (p : List ℕ) (c : Counts) where
   pub pair-is : (s word : ℕ) {n r : ℕ} → n ≡ listLen p c s → r ≡ nextItem p c s 0 n word → r ≡ pairOf p c s word
   unfolding nextItem pairOf
   pair-is s word e q = rw (← e) q
+
+  pub next-is : (s i n name : ℕ) {r : ℕ} → i ≤ n → r ≡ nextItem p c s i n name → Until (λ k. not (eqb (listItem p c s (2 * k)) name)) i n r
+  unfolding nextItem
+  next-is s i n name l q = rw q (until-is (λ k. not (eqb (listItem p c s (2 * k)) name)) i n l)

@@ -7,25 +7,26 @@ use Rattle.pack.specs.Lists.{listLen}
 use Rattle.members.specs.Lookup.{nameAt}
 use Rattle.arms.specs.Match.{covered, missingVariants}
 use Rattle.members.proofs.Counting.{Counted, count-none, count-more, count-room, count-all}
+use Rattle.arms.proofs.Covering.{covered-told}
 use borrow.Author.Needs.{needs}
 use native.Mathlib.Omega.{arith}
 use Rattle.arms.proofs.arms.count_missing.Statement.{statement}
 use Rattle.arms.proofs.arms.count_missing.Tie as tie
 
 abbrev Inv-loop : tie.InvT-loop
-Inv-loop pack c list arms marks n missing₀ k₀ missing k = Counted (λ m. not (covered pack c arms (nameAt pack c list m))) (listLen pack c list) k missing
+Inv-loop pack c names list arms n missing₀ k₀ missing k = Counted (λ m. not (covered pack c arms (nameAt pack c list m))) (listLen pack c list) k missing
 
 abbrev μ-loop : tie.MeasureT-loop
-μ-loop pack c list arms marks n missing₀ k₀ missing k = n - k
+μ-loop pack c names list arms n missing₀ k₀ missing k = n - k
 
 loop-holds : tie.Need-loop-holds Inv-loop μ-loop
 loop-holds c = count-none _ _
 
 add-missing : tie.Need-add-missing Inv-loop μ-loop
-add-missing c = omega (arith, count-room (c .before .before .before .before .loop .inv) (not (c .before .is-covered .result)) (omega (arith, c .before .before .before .before .before .list-len .ensures .same)) (c .flag .ensures) (omega (arith, c .before .before .before .before .before .list-len .ensures .same, c .before .before .before .before .before .list-len .ensures .small)))
+add-missing c = omega (arith, count-room (c .before .before .before .before .loop .inv) (not (c .before .has-free .result)) (omega (arith, c .before .before .before .before .before .list-len .ensures .same)) (c .flag .ensures) (omega (arith, c .before .before .before .before .before .list-len .ensures .same, c .before .before .before .before .before .list-len .ensures .small)))
 
 loop-again : tie.Need-loop-again Inv-loop μ-loop
-loop-again c = count-more (c .before .before .before .before .loop .inv) (omega (arith, c .before .before .before .before .before .list-len .ensures .same)) (c .flag .ensures) (ap not (rw (c .before .before .name-at .ensures .same) at (c .before .is-covered .ensures)))
+loop-again c = count-more (c .before .before .before .before .loop .inv) (omega (arith, c .before .before .before .before .before .list-len .ensures .same)) (c .flag .ensures) (ap not (covered-told _ _ _ _ (c .before .before .before .before .before .before .before .pre .1) (rw (c .before .before .name-at .ensures .same) at (c .before .has-free .ensures))))
 
 returns : tie.Need-returns Inv-loop μ-loop
 unfolding missingVariants
