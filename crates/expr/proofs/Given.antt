@@ -66,28 +66,28 @@ opened-as : {vars : ℕ} {ok : Bool} {o : Opening} {c s w : List ℕ} → openin
 opened-as {vars = vars} {c = c} {w = w} q h = subst (λ (o : Opening). Ready vars (st c (o .slots) w)) (sym q) h
 
 -- the same of all that a rule is given
-module _ {e : Env} {vars : ℕ} {c s w : List ℕ} (g : Given e vars (st c s w)) where
-  pub given-recorded : (id x : ℕ) {v : List ℕ} → v ≡ recorded w id x → Coded vars x → Given e vars (st c s v)
+module _ {e : Env} {names : List ℕ} {vars : ℕ} {c s w : List ℕ} (g : Given e names vars (st c s w)) where
+  pub given-recorded : (id x : ℕ) {v : List ℕ} → v ≡ recorded w id x → Coded vars x → Given e names vars (st c s v)
   given-recorded id x q k = given-more g (rw q (recorded-ready id x (g .ready) k))
 
-  pub given-settled : {x r : ℕ} {d : List ℕ} → Resolves vars c x r d → Given e vars (st d s w)
+  pub given-settled : {x r : ℕ} {d : List ℕ} → Resolves vars c x r d → Given e names vars (st d s w)
   given-settled r = given-more g (settled-ready (g .ready) r)
 
   pub given-opened : (list name payload : ℕ) {ok : Bool} {l : List ℕ} {fault : ℕ} → fault ≡ armFault (e .p) (e .c) (e .marks) list name payload → fault ≡ 0
-      → opening ok l ≡ payloadOpens (e .p) (e .c) (e .same) list name payload s → Given e vars (st c l w)
+      → opening ok l ≡ payloadOpens (e .p) (e .c) (e .same) list name payload s → Given e names vars (st c l w)
   given-opened list name payload f z q = given-more g (opened-as q (payload-opens-ready e list name payload (g .marked) (rw f at z) (g .ready)))
 
 -- a type was asked for, and then an expression checked against it and what it stands for resolved
-module _ {e : Env} {vars : ℕ} {c s w : List ℕ} (g : Given e vars (st c s w)) {rule : State → Typing} {t : Typed} {c1 : List ℕ} (f : CellsType vars rule c t c1)
+module _ {e : Env} {names : List ℕ} {vars : ℕ} {c s w : List ℕ} (g : Given e names vars (st c s w)) {rule : State → Typing} {t : Typed} {c1 : List ℕ} (f : CellsType vars rule c t c1)
     {own more : ℕ} (q : t ≡ typed.Type own more) where
   asked : Types vars (rule (st c s w)) t c1 s w
   asked = f .ran s w (g .ready)
 
-  pub given-typed : Given e more (st c1 s w) × Coded more own
+  pub given-typed : Given e names more (st c1 s w) × Coded more own
   given-typed = (given-after-type g asked q, after-type asked q .1 .1)
 
   module _ {a : Ans} {r : Step} {c2 s2 w2 : List ℕ} (i : Ran more a r c2 s2 w2) {o : Outcome} (d : r ≡ Done o) where
-    pub given-inner : Given e (o .vars) (st c2 s2 w2)
+    pub given-inner : Given e names (o .vars) (st c2 s2 w2)
     given-inner = given-after (given-typed .0) i d
 
     pub own-inner : Coded (o .vars) own
@@ -97,7 +97,7 @@ module _ {e : Env} {vars : ℕ} {c s w : List ℕ} (g : Given e vars (st c s w))
     coded-inner k = coded-more (after i d .0) (coded-more (after-type asked q .0) k)
 
 -- the field that was found
-pub given-accessed : {e : Env} {vars : ℕ} {s : State} → Given e vars s → (x name : ℕ) {t : ℕ} {a : Accessed} → a ≡ accessedBy (e .p) (e .c) (e .marks) x name → a ≡ accessed.Type t
+pub given-accessed : {e : Env} {names : List ℕ} {vars : ℕ} {s : State} → Given e names vars s → (x name : ℕ) {t : ℕ} {a : Accessed} → a ≡ accessedBy (e .p) (e .c) (e .marks) x name → a ≡ accessed.Type t
     → (n : ℕ) → Coded n (codeIn (e .p) (e .c) (e .same) t)
 given-accessed {e = e} g x name q h = accessed-coded e x name (g .marked) (sym q ∙ h)
 

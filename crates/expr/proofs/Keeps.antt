@@ -207,15 +207,15 @@ expr-keeps (suc left) e ret m = record { keeps = λ id want vars s h w. node-kee
 
 -- ---- what a rule is given
 
-module _ {e : Env} {vars : ℕ} {s : State} (g : Given e vars s) where
+module _ {e : Env} {names : List ℕ} {vars : ℕ} {s : State} (g : Given e names vars s) where
   pub run-given : (depth : ℕ) → RunKeeps (exprRule depth e)
   run-given depth = expr-keeps depth e (g .returns) (g .marked)
 
-  pub given-more : {more : ℕ} {t : State} → Ready more t → Given e more t
-  given-more h = record { ready = h; returns = g .returns; marked = g .marked }
+  pub given-more : {more : ℕ} {t : State} → Ready more t → Given e names more t
+  given-more h = record { ready = h; returns = g .returns; marked = g .marked; indexed = g .indexed }
 
-  pub given-after : {a : Ans} {r : Step} {k l w : List ℕ} {o : Outcome} → Ran vars a r k l w → r ≡ Done o → Given e (o .vars) (st k l w)
+  pub given-after : {a : Ans} {r : Step} {k l w : List ℕ} {o : Outcome} → Ran vars a r k l w → r ≡ Done o → Given e names (o .vars) (st k l w)
   given-after h q = given-more (after h q .1)
 
-  pub given-after-type : {a : Typing} {r : Typed} {k l w : List ℕ} {x more : ℕ} → Types vars a r k l w → r ≡ typed.Type x more → Given e more (st k l w)
+  pub given-after-type : {a : Typing} {r : Typed} {k l w : List ℕ} {x more : ℕ} → Types vars a r k l w → r ≡ typed.Type x more → Given e names more (st k l w)
   given-after-type h q = given-more (after-type h q .1 .0)

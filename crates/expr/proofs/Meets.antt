@@ -17,7 +17,7 @@ use Rattle.expr.proofs.Keeps.{let-keeps, stmt-keeps, stmts-keeps, last-
 abbrev Met : ℕ → Step → List ℕ → List ℕ → List ℕ → Ans → Type 0
 Met vars r c l w a = ran r c l w ≡ a → Ran vars a r c l w
 
-module _ {e : Env} {vars : ℕ} {s : State} (g : Given e vars s) (depth : ℕ) {r : Step} {c l w : List ℕ} where
+module _ {e : Env} {names : List ℕ} {vars : ℕ} {s : State} (g : Given e names vars s) (depth : ℕ) {r : Step} {c l w : List ℕ} where
   pub meets-let : (id : ℕ) (n : ExpressionRow) → Met vars r c l w (letRule (exprRule depth e) e id n vars s)
   meets-let id n = ran-keeps (let-keeps _ _ id n vars s (run-given g depth) (g .returns) (g .marked) (g .ready))
 

@@ -47,7 +47,7 @@ use Rattle.expr.proofs.Keeps.{given-after}
 use Rattle.expr.proofs.Given.{given-inner, given-settled, given-recorded}
 use Rattle.expr.proofs.Meets.{meets-match, meets-field, meets-body, meets-arm, meets-cases, meets-block, meets-let, meets-stmt, meets-right, meets-operator, meets-record, meets-expr}
 
-module _ {e : Env} {vars : ℕ} {c s w : List ℕ} (g : Given e vars (st c s w)) {want : ℕ} (k : Coded vars want) (depth : ℕ) where
+module _ {e : Env} {names : List ℕ} {vars : ℕ} {c s w : List ℕ} (g : Given e names vars (st c s w)) {want : ℕ} (k : Coded vars want) (depth : ℕ) where
   -- ---- match and field: a fresh type, and the inner node against it
 
   module _ (id : ℕ) (n : ExpressionRow) {t : Typed} {c1 : List ℕ} (f : CellsType vars (freshType Var vars) c t c1) {own more : ℕ} (q : t ≡ typed.Type own more)
@@ -276,7 +276,7 @@ module _ {e : Env} {vars : ℕ} {c s w : List ℕ} (g : Given e vars (st c s w))
 
 -- ---- a statement and a let: no type is expected of them
 
-module _ {e : Env} {vars : ℕ} {c s w : List ℕ} (g : Given e vars (st c s w)) (depth : ℕ) where
+module _ {e : Env} {names : List ℕ} {vars : ℕ} {c s w : List ℕ} (g : Given e names vars (st c s w)) (depth : ℕ) where
   module _ (id : ℕ) {n : ExpressionRow} (a : n ≡ expressionRow (e .p) (e .c) id) where
     pub stmt-let : n .kind ≡ letKind → {z : Step} {l m v : List ℕ} → Ran vars (letRule (exprRule depth e) e id n vars (st c s w)) z l m v
         → Ran vars (stmtRule (exprRule depth e) e id vars (st c s w)) z l m v

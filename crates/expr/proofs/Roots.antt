@@ -27,6 +27,7 @@ use Rattle.unionfind.specs.Cells.{capacity}
 use Rattle.unionfind.specs.Answers.{selves, Empties}
 use Rattle.structure.specs.Structure.{rows, rowNumber, holds}
 use Rattle.structure.specs.Types.{codeIn}
+use Rattle.names.specs.Index.{Indexed}
 use Rattle.members.specs.Marks.{isMarked, anyFieldMarked}
 use Rattle.members.proofs.Counts.{any-none}
 use Rattle.slots.specs.Slots.{slots, Opening, opening, openPairs}
@@ -144,9 +145,9 @@ module _ {p : List ℕ} {c : Counts} {same marks area : List ℕ} (h : Checks p 
             notes = record { each = λ i. rw (v, zeros-get nodes i) (never-coded 0) };
           }
 
-      pub root-given : {cells notes : List ℕ} → {len : ℕ} → Empties len cells → notes ≡ replicate nodes 0 → Given (env p c same marks ret) 0 (st cells l notes)
+      pub root-given : {cells notes names : List ℕ} → {len : ℕ} → Empties len cells → notes ≡ replicate nodes 0 → Indexed p c names → Given (env p c same marks ret) names 0 (st cells l notes)
       unfolding anyFieldMarked
-      root-given {cells = cells} {notes = notes} u v =
+      root-given {cells = cells} {notes = notes} u v x =
           record {
             ready =
                 rw (ap (λ (z : Opening). z .slots) opens)
@@ -155,6 +156,7 @@ module _ {p : List ℕ} {c : Counts} {same marks area : List ℕ} (h : Checks p 
                 (empty-ready u v));
             returns = ret-coded;
             marked = marked;
+            indexed = x;
           }
 
 -- two results that meet the contract of `check_root` are equal

@@ -9,6 +9,7 @@ use Rattle.pack.specs.Lists.{listItem}
 use Rattle.pack.specs.declared.counts.Counts.{Counts}
 use Rattle.unionfind.specs.Cells.{Knows, Live}
 use Rattle.structure.specs.Types.{codeIn}
+use Rattle.names.specs.Index.{Indexed}
 use Rattle.members.specs.Lookup.{memberOf}
 use Rattle.members.specs.Marks.{isMarked}
 use Rattle.slots.specs.Slots.{slots as slotCount}
@@ -40,11 +41,12 @@ pub record Ready (vars : ℕ) (s : State) : Type 0 where
 pub record Marked (p : List ℕ) (c : Counts) (same marks : List ℕ) : Type 0 where
   pub each : (i : ℕ) → isMarked marks i ≡ false → (n : ℕ) → Coded n (codeIn p c same i)
 
--- what a rule is given
-pub record Given (e : Env) (vars : ℕ) (s : State) : Type 0 where
+-- what a rule is given; the index of names is none of what it is about
+pub record Given (e : Env) (names : List ℕ) (vars : ℕ) (s : State) : Type 0 where
   pub ready : Ready vars s
   pub returns : Coded 0 (e .ret)
   pub marked : Marked (e .p) (e .c) (e .same) (e .marks)
+  pub indexed : Indexed (e .p) (e .c) names
 
 -- the fields given to a record, from the k-th on, so many left, have types that are not marked
 pub record Fielded (e : Env) (list fields left k : ℕ) : Type 0 where

@@ -1,10 +1,12 @@
 // The slots of an arm's payload, and where the arms of a match end.
 ghost use mathlib.Core.Path.{_≡_};
 ghost use Prim.Native.Nat.{_<_};
+ghost use Rattle.names.specs.Index.{Indexed};
 ghost use Rattle.slots.specs.Slots.{opening};
 ghost use Rattle.expr.specs.Rules.{payloadOpens, payloadCloses, endsArms};
 use laws::both;
 use members::member_of;
+use names::NameIndex;
 use pack::Counts;
 use pack::list_item;
 use slots::Slots;
@@ -19,12 +21,14 @@ const WILD: u32 = 16383;
 pub fn open_payload(
     pack: &[u8],
     c: Counts,
+    names: &[u16; NameIndex::CAPACITY],
     same: &[u32; TypeTable::CAPACITY],
     slots: &mut [u32; Slots::CAPACITY],
     list: u32,
     name: u32,
     payload: u32,
 ) -> bool
+    requires { ⌜ Indexed (now pack) c (now names) ⌝ }
     ensures { λ r. ⌜ opening r (now (slots .exit)) ≡ payloadOpens (now (pack .entry)) c (now (same .entry)) list name payload (now (slots .entry)) ⌝ }
 {
     if payload == 0 {
@@ -33,7 +37,7 @@ pub fn open_payload(
     if name == WILD {
         return true;
     }
-    let fields = member_of(pack, c, list, name);
+    let fields = member_of(pack, c, names, list, name);
     open_list(pack, c, same, slots, payload - 1, fields)
 }
 

@@ -2,6 +2,7 @@
 ghost use mathlib.Core.Path.{_≡_};
 ghost use mathlib.Core.Bool.{_||_};
 ghost use Rattle.pack.specs.Rows.{rootRow};
+ghost use Rattle.names.specs.Index.{Indexed};
 ghost use Rattle.members.specs.Marks.{isMarked, anyFieldMarked};
 ghost use Rattle.expr.specs.Root.{rootAnswer, rootArea, Checks};
 use crate::answer::Checked;
@@ -11,6 +12,7 @@ use laws::Refusal;
 use laws::either;
 use members::any_field_marked;
 use members::is_marked;
+use names::NameIndex;
 use pack::Counts;
 use pack::RootRow;
 use pack::root_row;
@@ -45,16 +47,17 @@ fn root_marked(pack: &[u8], c: Counts, marks: &[u32; TypeTable::CAPACITY], row: 
     )
 }
 
-// Root `root` of a well-formed pack, whose types are numbered by `number_rows`.
+// Root `root` of a well-formed pack, whose types are numbered by `number_rows`, and its names put in order by `fill_names`.
 pub fn check_root(
     pack: &[u8],
     c: Counts,
+    names: &[u16; NameIndex::CAPACITY],
     same: &[u32; TypeTable::CAPACITY],
     marks: &[u32; TypeTable::CAPACITY],
     root: u32,
     area: &mut [u8],
 ) -> Checked
-    requires { ⌜ Checks (now pack) c (now same) (now marks) (now area) ⌝ }
+    requires { ⌜ Checks (now pack) c (now same) (now marks) (now area) × Indexed (now pack) c (now names) ⌝ }
     ensures { λ r. ⌜ (r ≡ rootAnswer (now (pack .entry)) c root) × (now (area .exit) ≡ rootArea (now (pack .entry)) c root (now (area .entry))) ⌝ }
 {
     let row = root_row(pack, c, root);
@@ -69,6 +72,7 @@ pub fn check_root(
         match expr(
             pack,
             c,
+            names,
             same,
             marks,
             ret,

@@ -36,6 +36,7 @@ use members::Accessed;
 use members::accessed;
 use members::is_list;
 use members::member_of;
+use names::NameIndex;
 use operators::operator_plan;
 use pack::Counts;
 use pack::ExpressionRow;
@@ -83,6 +84,7 @@ impl Node {
 pub fn let_stmt(
     pack: &[u8],
     c: Counts,
+    names: &[u16; NameIndex::CAPACITY],
     same: &[u32; TypeTable::CAPACITY],
     marks: &[u32; TypeTable::CAPACITY],
     ret: u32,
@@ -94,7 +96,7 @@ pub fn let_stmt(
     n: ExpressionRow,
     vars: u32,
 ) -> Step
-    requires { ⌜ Given (env (now pack) c (now same) (now marks) ret) vars (st (now cells) (now slots) (now notes)) ⌝ }
+    requires { ⌜ Given (env (now pack) c (now same) (now marks) ret) (now names) vars (st (now cells) (now slots) (now notes)) ⌝ }
     ensures { λ r. ⌜ Ran vars (letRule (exprRule depth (env (now (pack .entry)) c (now (same .entry)) (now (marks .entry)) ret)) (env (now (pack .entry)) c (now (same .entry)) (now (marks .entry)) ret) id n vars (st (now (cells .entry)) (now (slots .entry)) (now (notes .entry))))
         r (now (cells .exit)) (now (slots .exit)) (now (notes .exit)) ⌝ }
 {
@@ -104,6 +106,7 @@ pub fn let_stmt(
         Typed::Type { code, vars } => match expr(
             pack,
             c,
+            names,
             same,
             marks,
             ret,
@@ -132,6 +135,7 @@ pub fn let_stmt(
 pub fn stmt(
     pack: &[u8],
     c: Counts,
+    names: &[u16; NameIndex::CAPACITY],
     same: &[u32; TypeTable::CAPACITY],
     marks: &[u32; TypeTable::CAPACITY],
     ret: u32,
@@ -142,7 +146,7 @@ pub fn stmt(
     id: u32,
     vars: u32,
 ) -> Step
-    requires { ⌜ Given (env (now pack) c (now same) (now marks) ret) vars (st (now cells) (now slots) (now notes)) ⌝ }
+    requires { ⌜ Given (env (now pack) c (now same) (now marks) ret) (now names) vars (st (now cells) (now slots) (now notes)) ⌝ }
     ensures { λ r. ⌜ Ran vars (stmtRule (exprRule depth (env (now (pack .entry)) c (now (same .entry)) (now (marks .entry)) ret)) (env (now (pack .entry)) c (now (same .entry)) (now (marks .entry)) ret) id vars (st (now (cells .entry)) (now (slots .entry)) (now (notes .entry))))
         r (now (cells .exit)) (now (slots .exit)) (now (notes .exit)) ⌝ }
 {
@@ -151,6 +155,7 @@ pub fn stmt(
         return let_stmt(
             pack,
             c,
+            names,
             same,
             marks,
             ret,
@@ -168,6 +173,7 @@ pub fn stmt(
         Typed::Type { code, vars } => expr(
             pack,
             c,
+            names,
             same,
             marks,
             ret,
@@ -186,6 +192,7 @@ pub fn stmt(
 pub fn stmts(
     pack: &[u8],
     c: Counts,
+    names: &[u16; NameIndex::CAPACITY],
     same: &[u32; TypeTable::CAPACITY],
     marks: &[u32; TypeTable::CAPACITY],
     ret: u32,
@@ -197,7 +204,7 @@ pub fn stmts(
     n: u32,
     vars: u32,
 ) -> Step
-    requires { ⌜ Given (env (now pack) c (now same) (now marks) ret) vars (st (now cells) (now slots) (now notes)) ⌝ }
+    requires { ⌜ Given (env (now pack) c (now same) (now marks) ret) (now names) vars (st (now cells) (now slots) (now notes)) ⌝ }
     ensures { λ r. ⌜ Ran vars (stmtsRule (exprRule depth (env (now (pack .entry)) c (now (same .entry)) (now (marks .entry)) ret)) (env (now (pack .entry)) c (now (same .entry)) (now (marks .entry)) ret) list n 0 false vars (st (now (cells .entry)) (now (slots .entry)) (now (notes .entry))))
         r (now (cells .exit)) (now (slots .exit)) (now (notes .exit)) ⌝ }
 {
@@ -209,6 +216,7 @@ pub fn stmts(
         match stmt(
             pack,
             c,
+            names,
             same,
             marks,
             ret,
@@ -236,6 +244,7 @@ pub fn stmts(
 pub fn last(
     pack: &[u8],
     c: Counts,
+    names: &[u16; NameIndex::CAPACITY],
     same: &[u32; TypeTable::CAPACITY],
     marks: &[u32; TypeTable::CAPACITY],
     ret: u32,
@@ -249,7 +258,7 @@ pub fn last(
     d: bool,
     vars: u32,
 ) -> Step
-    requires { ⌜ Given (env (now pack) c (now same) (now marks) ret) vars (st (now cells) (now slots) (now notes)) × Coded vars want ⌝ }
+    requires { ⌜ Given (env (now pack) c (now same) (now marks) ret) (now names) vars (st (now cells) (now slots) (now notes)) × Coded vars want ⌝ }
     ensures { λ r. ⌜ Ran vars (lastRule (exprRule depth (env (now (pack .entry)) c (now (same .entry)) (now (marks .entry)) ret)) (env (now (pack .entry)) c (now (same .entry)) (now (marks .entry)) ret) id last want d vars (st (now (cells .entry)) (now (slots .entry)) (now (notes .entry))))
         r (now (cells .exit)) (now (slots .exit)) (now (notes .exit)) ⌝ }
 {
@@ -262,6 +271,7 @@ pub fn last(
     expr(
         pack,
         c,
+        names,
         same,
         marks,
         ret,
@@ -279,6 +289,7 @@ pub fn last(
 pub fn block(
     pack: &[u8],
     c: Counts,
+    names: &[u16; NameIndex::CAPACITY],
     same: &[u32; TypeTable::CAPACITY],
     marks: &[u32; TypeTable::CAPACITY],
     ret: u32,
@@ -291,7 +302,7 @@ pub fn block(
     want: u32,
     vars: u32,
 ) -> Step
-    requires { ⌜ Given (env (now pack) c (now same) (now marks) ret) vars (st (now cells) (now slots) (now notes)) × Coded vars want ⌝ }
+    requires { ⌜ Given (env (now pack) c (now same) (now marks) ret) (now names) vars (st (now cells) (now slots) (now notes)) × Coded vars want ⌝ }
     ensures { λ r. ⌜ Ran vars (blockRule (exprRule depth (env (now (pack .entry)) c (now (same .entry)) (now (marks .entry)) ret)) (env (now (pack .entry)) c (now (same .entry)) (now (marks .entry)) ret) id n want vars (st (now (cells .entry)) (now (slots .entry)) (now (notes .entry))))
         r (now (cells .exit)) (now (slots .exit)) (now (notes .exit)) ⌝ }
 {
@@ -299,6 +310,7 @@ pub fn block(
     match stmts(
         pack,
         c,
+        names,
         same,
         marks,
         ret,
@@ -314,6 +326,7 @@ pub fn block(
         Step::Done(o) => match last(
             pack,
             c,
+            names,
             same,
             marks,
             ret,
@@ -342,6 +355,7 @@ pub fn block(
 pub fn right(
     pack: &[u8],
     c: Counts,
+    names: &[u16; NameIndex::CAPACITY],
     same: &[u32; TypeTable::CAPACITY],
     marks: &[u32; TypeTable::CAPACITY],
     ret: u32,
@@ -356,7 +370,7 @@ pub fn right(
     d: bool,
     vars: u32,
 ) -> Step
-    requires { ⌜ Given (env (now pack) c (now same) (now marks) ret) vars (st (now cells) (now slots) (now notes)) × (Coded vars want × Coded vars own) ⌝ }
+    requires { ⌜ Given (env (now pack) c (now same) (now marks) ret) (now names) vars (st (now cells) (now slots) (now notes)) × (Coded vars want × Coded vars own) ⌝ }
     ensures { λ r. ⌜ Ran vars (rightRule (exprRule depth (env (now (pack .entry)) c (now (same .entry)) (now (marks .entry)) ret)) (env (now (pack .entry)) c (now (same .entry)) (now (marks .entry)) ret) id n want own d vars (st (now (cells .entry)) (now (slots .entry)) (now (notes .entry))))
         r (now (cells .exit)) (now (slots .exit)) (now (notes .exit)) ⌝ }
 {
@@ -366,6 +380,7 @@ pub fn right(
         match expr(
             pack,
             c,
+            names,
             same,
             marks,
             ret,
@@ -392,6 +407,7 @@ pub fn right(
 pub fn binop(
     pack: &[u8],
     c: Counts,
+    names: &[u16; NameIndex::CAPACITY],
     same: &[u32; TypeTable::CAPACITY],
     marks: &[u32; TypeTable::CAPACITY],
     ret: u32,
@@ -404,7 +420,7 @@ pub fn binop(
     want: u32,
     vars: u32,
 ) -> Step
-    requires { ⌜ Given (env (now pack) c (now same) (now marks) ret) vars (st (now cells) (now slots) (now notes)) × Coded vars want ⌝ }
+    requires { ⌜ Given (env (now pack) c (now same) (now marks) ret) (now names) vars (st (now cells) (now slots) (now notes)) × Coded vars want ⌝ }
     ensures { λ r. ⌜ Ran vars (operatorRule (exprRule depth (env (now (pack .entry)) c (now (same .entry)) (now (marks .entry)) ret)) (env (now (pack .entry)) c (now (same .entry)) (now (marks .entry)) ret) id n want vars (st (now (cells .entry)) (now (slots .entry)) (now (notes .entry))))
         r (now (cells .exit)) (now (slots .exit)) (now (notes .exit)) ⌝ }
 {
@@ -415,6 +431,7 @@ pub fn binop(
             Typed::Type { code, vars } => match expr(
                 pack,
                 c,
+                names,
                 same,
                 marks,
                 ret,
@@ -430,6 +447,7 @@ pub fn binop(
                 Step::Done(l) => right(
                     pack,
                     c,
+                    names,
                     same,
                     marks,
                     ret,
@@ -453,6 +471,7 @@ pub fn binop(
 pub fn guarded(
     pack: &[u8],
     c: Counts,
+    names: &[u16; NameIndex::CAPACITY],
     same: &[u32; TypeTable::CAPACITY],
     marks: &[u32; TypeTable::CAPACITY],
     ret: u32,
@@ -463,7 +482,7 @@ pub fn guarded(
     guard: u32,
     vars: u32,
 ) -> Step
-    requires { ⌜ Given (env (now pack) c (now same) (now marks) ret) vars (st (now cells) (now slots) (now notes)) ⌝ }
+    requires { ⌜ Given (env (now pack) c (now same) (now marks) ret) (now names) vars (st (now cells) (now slots) (now notes)) ⌝ }
     ensures { λ r. ⌜ Ran vars (guardRule (exprRule depth (env (now (pack .entry)) c (now (same .entry)) (now (marks .entry)) ret)) guard vars (st (now (cells .entry)) (now (slots .entry)) (now (notes .entry))))
         r (now (cells .exit)) (now (slots .exit)) (now (notes .exit)) ⌝ }
 {
@@ -473,6 +492,7 @@ pub fn guarded(
     expr(
         pack,
         c,
+        names,
         same,
         marks,
         ret,
@@ -490,6 +510,7 @@ pub fn guarded(
 pub fn arm_body(
     pack: &[u8],
     c: Counts,
+    names: &[u16; NameIndex::CAPACITY],
     same: &[u32; TypeTable::CAPACITY],
     marks: &[u32; TypeTable::CAPACITY],
     ret: u32,
@@ -503,7 +524,7 @@ pub fn arm_body(
     want: u32,
     vars: u32,
 ) -> Step
-    requires { ⌜ (k < 65536) × (Given (env (now pack) c (now same) (now marks) ret) vars (st (now cells) (now slots) (now notes)) × Coded vars want) ⌝ }
+    requires { ⌜ (k < 65536) × (Given (env (now pack) c (now same) (now marks) ret) (now names) vars (st (now cells) (now slots) (now notes)) × Coded vars want) ⌝ }
     ensures { λ r. ⌜ Ran vars (bodyRule (exprRule depth (env (now (pack .entry)) c (now (same .entry)) (now (marks .entry)) ret)) (env (now (pack .entry)) c (now (same .entry)) (now (marks .entry)) ret) arms k payload want vars (st (now (cells .entry)) (now (slots .entry)) (now (notes .entry))))
         r (now (cells .exit)) (now (slots .exit)) (now (notes .exit)) ⌝ }
 {
@@ -511,6 +532,7 @@ pub fn arm_body(
     match guarded(
         pack,
         c,
+        names,
         same,
         marks,
         ret,
@@ -527,6 +549,7 @@ pub fn arm_body(
             match expr(
                 pack,
                 c,
+                names,
                 same,
                 marks,
                 ret,
@@ -552,6 +575,7 @@ pub fn arm_body(
 pub fn arm(
     pack: &[u8],
     c: Counts,
+    names: &[u16; NameIndex::CAPACITY],
     same: &[u32; TypeTable::CAPACITY],
     marks: &[u32; TypeTable::CAPACITY],
     ret: u32,
@@ -566,18 +590,19 @@ pub fn arm(
     want: u32,
     vars: u32,
 ) -> Step
-    requires { ⌜ (k < 65536) × (Given (env (now pack) c (now same) (now marks) ret) vars (st (now cells) (now slots) (now notes)) × Coded vars want) ⌝ }
+    requires { ⌜ (k < 65536) × (Given (env (now pack) c (now same) (now marks) ret) (now names) vars (st (now cells) (now slots) (now notes)) × Coded vars want) ⌝ }
     ensures { λ r. ⌜ Ran vars (armRule (exprRule depth (env (now (pack .entry)) c (now (same .entry)) (now (marks .entry)) ret)) (env (now (pack .entry)) c (now (same .entry)) (now (marks .entry)) ret) id list arms k want vars (st (now (cells .entry)) (now (slots .entry)) (now (notes .entry))))
         r (now (cells .exit)) (now (slots .exit)) (now (notes .exit)) ⌝ }
 {
     let name = list_item(pack, c, arms, 4 * k);
     let payload = list_item(pack, c, arms, 4 * k + 1);
-    let fault = arm_fault(pack, c, marks, list, name, payload);
+    let fault = arm_fault(pack, c, names, marks, list, name, payload);
     if fault == 0 {
-        if open_payload(pack, c, same, slots, list, name, payload) {
+        if open_payload(pack, c, names, same, slots, list, name, payload) {
             arm_body(
                 pack,
                 c,
+                names,
                 same,
                 marks,
                 ret,
@@ -603,6 +628,7 @@ pub fn arm(
 pub fn arms_in_order(
     pack: &[u8],
     c: Counts,
+    names: &[u16; NameIndex::CAPACITY],
     same: &[u32; TypeTable::CAPACITY],
     marks: &[u32; TypeTable::CAPACITY],
     ret: u32,
@@ -617,7 +643,7 @@ pub fn arms_in_order(
     want: u32,
     vars: u32,
 ) -> Step
-    requires { ⌜ (n < 65536) × (Given (env (now pack) c (now same) (now marks) ret) vars (st (now cells) (now slots) (now notes)) × Coded vars want) ⌝ }
+    requires { ⌜ (n < 65536) × (Given (env (now pack) c (now same) (now marks) ret) (now names) vars (st (now cells) (now slots) (now notes)) × Coded vars want) ⌝ }
     ensures { λ r. ⌜ Ran vars (armsRule (exprRule depth (env (now (pack .entry)) c (now (same .entry)) (now (marks .entry)) ret)) (env (now (pack .entry)) c (now (same .entry)) (now (marks .entry)) ret) id list arms n 0 false true want vars (st (now (cells .entry)) (now (slots .entry)) (now (notes .entry))))
         r (now (cells .exit)) (now (slots .exit)) (now (notes .exit)) ⌝ }
 {
@@ -632,6 +658,7 @@ pub fn arms_in_order(
         match arm(
             pack,
             c,
+            names,
             same,
             marks,
             ret,
@@ -664,6 +691,7 @@ pub fn arms_in_order(
 pub fn cases(
     pack: &[u8],
     c: Counts,
+    names: &[u16; NameIndex::CAPACITY],
     same: &[u32; TypeTable::CAPACITY],
     marks: &[u32; TypeTable::CAPACITY],
     ret: u32,
@@ -677,7 +705,7 @@ pub fn cases(
     want: u32,
     vars: u32,
 ) -> Step
-    requires { ⌜ Given (env (now pack) c (now same) (now marks) ret) vars (st (now cells) (now slots) (now notes)) × Coded vars want ⌝ }
+    requires { ⌜ Given (env (now pack) c (now same) (now marks) ret) (now names) vars (st (now cells) (now slots) (now notes)) × Coded vars want ⌝ }
     ensures { λ r. ⌜ Ran vars (casesRule (exprRule depth (env (now (pack .entry)) c (now (same .entry)) (now (marks .entry)) ret)) (env (now (pack .entry)) c (now (same .entry)) (now (marks .entry)) ret) id list arms want vars (st (now (cells .entry)) (now (slots .entry)) (now (notes .entry))))
         r (now (cells .exit)) (now (slots .exit)) (now (notes .exit)) ⌝ }
 {
@@ -685,6 +713,7 @@ pub fn cases(
     match arms_in_order(
         pack,
         c,
+        names,
         same,
         marks,
         ret,
@@ -701,7 +730,7 @@ pub fn cases(
     ) {
         Step::Refused(f) => Step::Refused(f),
         Step::Done(o) => {
-            let missing = missing_variants(pack, c, list, arms);
+            let missing = missing_variants(pack, c, names, list, arms);
             if missing == 0 {
                 done(o.diverges, 0, o.vars)
             } else {
@@ -715,6 +744,7 @@ pub fn cases(
 pub fn match_expr(
     pack: &[u8],
     c: Counts,
+    names: &[u16; NameIndex::CAPACITY],
     same: &[u32; TypeTable::CAPACITY],
     marks: &[u32; TypeTable::CAPACITY],
     ret: u32,
@@ -727,7 +757,7 @@ pub fn match_expr(
     want: u32,
     vars: u32,
 ) -> Step
-    requires { ⌜ Given (env (now pack) c (now same) (now marks) ret) vars (st (now cells) (now slots) (now notes)) × Coded vars want ⌝ }
+    requires { ⌜ Given (env (now pack) c (now same) (now marks) ret) (now names) vars (st (now cells) (now slots) (now notes)) × Coded vars want ⌝ }
     ensures { λ r. ⌜ Ran vars (matchRule (exprRule depth (env (now (pack .entry)) c (now (same .entry)) (now (marks .entry)) ret)) (env (now (pack .entry)) c (now (same .entry)) (now (marks .entry)) ret) id n want vars (st (now (cells .entry)) (now (slots .entry)) (now (notes .entry))))
         r (now (cells .exit)) (now (slots .exit)) (now (notes .exit)) ⌝ }
 {
@@ -736,6 +766,7 @@ pub fn match_expr(
         Typed::Type { code, vars } => match expr(
             pack,
             c,
+            names,
             same,
             marks,
             ret,
@@ -759,6 +790,7 @@ pub fn match_expr(
                     Subject::Enum(list) => cases(
                         pack,
                         c,
+                        names,
                         same,
                         marks,
                         ret,
@@ -782,6 +814,7 @@ pub fn match_expr(
 pub fn fields_in_order(
     pack: &[u8],
     c: Counts,
+    names: &[u16; NameIndex::CAPACITY],
     same: &[u32; TypeTable::CAPACITY],
     marks: &[u32; TypeTable::CAPACITY],
     ret: u32,
@@ -794,7 +827,7 @@ pub fn fields_in_order(
     n: u32,
     vars: u32,
 ) -> Step
-    requires { ⌜ ((n < 65536) × Fielded (env (now pack) c (now same) (now marks) ret) list fields n 0) × (Given (env (now pack) c (now same) (now marks) ret) vars (st (now cells) (now slots) (now notes))) ⌝ }
+    requires { ⌜ ((n < 65536) × Fielded (env (now pack) c (now same) (now marks) ret) list fields n 0) × (Given (env (now pack) c (now same) (now marks) ret) (now names) vars (st (now cells) (now slots) (now notes))) ⌝ }
     ensures { λ r. ⌜ Ran vars (fieldsRule (exprRule depth (env (now (pack .entry)) c (now (same .entry)) (now (marks .entry)) ret)) (env (now (pack .entry)) c (now (same .entry)) (now (marks .entry)) ret) list fields n 0 false vars (st (now (cells .entry)) (now (slots .entry)) (now (notes .entry))))
         r (now (cells .exit)) (now (slots .exit)) (now (notes .exit)) ⌝ }
 {
@@ -804,10 +837,11 @@ pub fn fields_in_order(
     while k < n {
         let name = list_item(pack, c, fields, 2 * k);
         let value = list_item(pack, c, fields, 2 * k + 1);
-        let code = type_code(pack, c, same, member_of(pack, c, list, name));
+        let code = type_code(pack, c, same, member_of(pack, c, names, list, name));
         match expr(
             pack,
             c,
+            names,
             same,
             marks,
             ret,
@@ -836,6 +870,7 @@ pub fn fields_in_order(
 pub fn record_fields(
     pack: &[u8],
     c: Counts,
+    names: &[u16; NameIndex::CAPACITY],
     same: &[u32; TypeTable::CAPACITY],
     marks: &[u32; TypeTable::CAPACITY],
     ret: u32,
@@ -848,17 +883,18 @@ pub fn record_fields(
     want: u32,
     vars: u32,
 ) -> Step
-    requires { ⌜ Given (env (now pack) c (now same) (now marks) ret) vars (st (now cells) (now slots) (now notes)) × Coded vars want ⌝ }
+    requires { ⌜ Given (env (now pack) c (now same) (now marks) ret) (now names) vars (st (now cells) (now slots) (now notes)) × Coded vars want ⌝ }
     ensures { λ r. ⌜ Ran vars (recordRule (exprRule depth (env (now (pack .entry)) c (now (same .entry)) (now (marks .entry)) ret)) (env (now (pack .entry)) c (now (same .entry)) (now (marks .entry)) ret) id n want vars (st (now (cells .entry)) (now (slots .entry)) (now (notes .entry))))
         r (now (cells .exit)) (now (slots .exit)) (now (notes .exit)) ⌝ }
 {
-    let fault = record_fault(pack, c, marks, n.a, n.b);
+    let fault = record_fault(pack, c, names, marks, n.a, n.b);
     if fault.number == 0 {
         let row = definition_row(pack, c, n.a);
         let left = list_len(pack, c, n.b);
         match fields_in_order(
             pack,
             c,
+            names,
             same,
             marks,
             ret,
@@ -886,6 +922,7 @@ pub fn record_fields(
 pub fn access_field(
     pack: &[u8],
     c: Counts,
+    names: &[u16; NameIndex::CAPACITY],
     same: &[u32; TypeTable::CAPACITY],
     marks: &[u32; TypeTable::CAPACITY],
     ret: u32,
@@ -898,7 +935,7 @@ pub fn access_field(
     want: u32,
     vars: u32,
 ) -> Step
-    requires { ⌜ Given (env (now pack) c (now same) (now marks) ret) vars (st (now cells) (now slots) (now notes)) × Coded vars want ⌝ }
+    requires { ⌜ Given (env (now pack) c (now same) (now marks) ret) (now names) vars (st (now cells) (now slots) (now notes)) × Coded vars want ⌝ }
     ensures { λ r. ⌜ Ran vars (fieldRule (exprRule depth (env (now (pack .entry)) c (now (same .entry)) (now (marks .entry)) ret)) (env (now (pack .entry)) c (now (same .entry)) (now (marks .entry)) ret) id n want vars (st (now (cells .entry)) (now (slots .entry)) (now (notes .entry))))
         r (now (cells .exit)) (now (slots .exit)) (now (notes .exit)) ⌝ }
 {
@@ -907,6 +944,7 @@ pub fn access_field(
         Typed::Type { code, vars } => match expr(
             pack,
             c,
+            names,
             same,
             marks,
             ret,
@@ -921,7 +959,7 @@ pub fn access_field(
             Step::Refused(f) => Step::Refused(f),
             Step::Done(o) => {
                 let x = resolve_type(cells, o.vars, code);
-                match accessed(pack, c, marks, x, n.b) {
+                match accessed(pack, c, names, marks, x, n.b) {
                     Accessed::Fault(number) => refuse(number, id, 0),
                     Accessed::Type(t) => field_type(
                         pack,
@@ -945,6 +983,7 @@ pub fn access_field(
 pub fn returned(
     pack: &[u8],
     c: Counts,
+    names: &[u16; NameIndex::CAPACITY],
     same: &[u32; TypeTable::CAPACITY],
     marks: &[u32; TypeTable::CAPACITY],
     ret: u32,
@@ -956,7 +995,7 @@ pub fn returned(
     value: u32,
     vars: u32,
 ) -> Step
-    requires { ⌜ Given (env (now pack) c (now same) (now marks) ret) vars (st (now cells) (now slots) (now notes)) ⌝ }
+    requires { ⌜ Given (env (now pack) c (now same) (now marks) ret) (now names) vars (st (now cells) (now slots) (now notes)) ⌝ }
     ensures { λ r. ⌜ Ran vars (returnedRule (exprRule depth (env (now (pack .entry)) c (now (same .entry)) (now (marks .entry)) ret)) (env (now (pack .entry)) c (now (same .entry)) (now (marks .entry)) ret) id value vars (st (now (cells .entry)) (now (slots .entry)) (now (notes .entry))))
         r (now (cells .exit)) (now (slots .exit)) (now (notes .exit)) ⌝ }
 {
@@ -966,6 +1005,7 @@ pub fn returned(
     expr(
         pack,
         c,
+        names,
         same,
         marks,
         ret,
@@ -983,6 +1023,7 @@ pub fn returned(
 pub fn return_expr(
     pack: &[u8],
     c: Counts,
+    names: &[u16; NameIndex::CAPACITY],
     same: &[u32; TypeTable::CAPACITY],
     marks: &[u32; TypeTable::CAPACITY],
     ret: u32,
@@ -994,13 +1035,14 @@ pub fn return_expr(
     n: ExpressionRow,
     vars: u32,
 ) -> Step
-    requires { ⌜ Given (env (now pack) c (now same) (now marks) ret) vars (st (now cells) (now slots) (now notes)) ⌝ }
+    requires { ⌜ Given (env (now pack) c (now same) (now marks) ret) (now names) vars (st (now cells) (now slots) (now notes)) ⌝ }
     ensures { λ r. ⌜ Ran vars (returnRule (exprRule depth (env (now (pack .entry)) c (now (same .entry)) (now (marks .entry)) ret)) (env (now (pack .entry)) c (now (same .entry)) (now (marks .entry)) ret) id n vars (st (now (cells .entry)) (now (slots .entry)) (now (notes .entry))))
         r (now (cells .exit)) (now (slots .exit)) (now (notes .exit)) ⌝ }
 {
     match returned(
         pack,
         c,
+        names,
         same,
         marks,
         ret,
@@ -1021,6 +1063,7 @@ pub fn return_expr(
 pub fn rule(
     pack: &[u8],
     c: Counts,
+    names: &[u16; NameIndex::CAPACITY],
     same: &[u32; TypeTable::CAPACITY],
     marks: &[u32; TypeTable::CAPACITY],
     ret: u32,
@@ -1033,7 +1076,7 @@ pub fn rule(
     want: u32,
     vars: u32,
 ) -> Step
-    requires { ⌜ Given (env (now pack) c (now same) (now marks) ret) vars (st (now cells) (now slots) (now notes)) × Coded vars want ⌝ }
+    requires { ⌜ Given (env (now pack) c (now same) (now marks) ret) (now names) vars (st (now cells) (now slots) (now notes)) × Coded vars want ⌝ }
     ensures { λ r. ⌜ Ran vars (kindRule (exprRule depth (env (now (pack .entry)) c (now (same .entry)) (now (marks .entry)) ret)) (env (now (pack .entry)) c (now (same .entry)) (now (marks .entry)) ret) id n want vars (st (now (cells .entry)) (now (slots .entry)) (now (notes .entry))) (n .kind))
         r (now (cells .exit)) (now (slots .exit)) (now (notes .exit)) ⌝ }
 {
@@ -1044,6 +1087,7 @@ pub fn rule(
         Node::BLOCK => block(
             pack,
             c,
+            names,
             same,
             marks,
             ret,
@@ -1059,6 +1103,7 @@ pub fn rule(
         Node::MATCH => match_expr(
             pack,
             c,
+            names,
             same,
             marks,
             ret,
@@ -1074,6 +1119,7 @@ pub fn rule(
         Node::OPERATOR => binop(
             pack,
             c,
+            names,
             same,
             marks,
             ret,
@@ -1089,6 +1135,7 @@ pub fn rule(
         Node::RECORD => record_fields(
             pack,
             c,
+            names,
             same,
             marks,
             ret,
@@ -1104,6 +1151,7 @@ pub fn rule(
         Node::FIELD => access_field(
             pack,
             c,
+            names,
             same,
             marks,
             ret,
@@ -1119,6 +1167,7 @@ pub fn rule(
         Node::RETURN => return_expr(
             pack,
             c,
+            names,
             same,
             marks,
             ret,
@@ -1138,6 +1187,7 @@ pub fn rule(
 pub fn expr(
     pack: &[u8],
     c: Counts,
+    names: &[u16; NameIndex::CAPACITY],
     same: &[u32; TypeTable::CAPACITY],
     marks: &[u32; TypeTable::CAPACITY],
     ret: u32,
@@ -1149,7 +1199,7 @@ pub fn expr(
     want: u32,
     vars: u32,
 ) -> Step
-    requires { ⌜ Given (env (now pack) c (now same) (now marks) ret) vars (st (now cells) (now slots) (now notes)) × Coded vars want ⌝ }
+    requires { ⌜ Given (env (now pack) c (now same) (now marks) ret) (now names) vars (st (now cells) (now slots) (now notes)) × Coded vars want ⌝ }
     ensures { λ r. ⌜ Ran vars (exprRule depth (env (now (pack .entry)) c (now (same .entry)) (now (marks .entry)) ret) id want vars (st (now (cells .entry)) (now (slots .entry)) (now (notes .entry))))
         r (now (cells .exit)) (now (slots .exit)) (now (notes .exit)) ⌝ }
 {
@@ -1161,6 +1211,7 @@ pub fn expr(
     match rule(
         pack,
         c,
+        names,
         same,
         marks,
         ret,

@@ -42,6 +42,9 @@ module _ (t : ℕ) where
   resolve-type-requires : access-field-lts.Need-resolve-type-requires (claims t) (access-field-at t) access-field.Post
   resolve-type-requires c κs = ((given-inner (c .before .before .before .before .before .before .before .before .before .before .before .before .before .before .pre .1 .0) (c .before .before .before .before .before .before .before .before .before .before .before .fresh-type .ensures) (c .before .before .before .before .before .before .before .before .before .code .given .1) (c .before .before .before .before .expr .ensures) (c .before .before .o .given .1)) .ready .live, (own-inner (c .before .before .before .before .before .before .before .before .before .before .before .before .before .before .pre .1 .0) (c .before .before .before .before .before .before .before .before .before .before .before .fresh-type .ensures) (c .before .before .before .before .before .before .before .before .before .code .given .1) (c .before .before .before .before .expr .ensures) (c .before .before .o .given .1)) .known)
 
+  accessed-requires : access-field-lts.Need-accessed-requires (claims t) (access-field-at t) access-field.Post
+  accessed-requires c κs = c .before .before .before .before .before .before .before .before .before .before .before .before .before .before .before .pre .1 .0 .indexed
+
   field-type-requires : access-field-lts.Need-field-type-requires (claims t) (access-field-at t) access-field.Post
   field-type-requires c κs = ((given-settled (given-inner (c .before .before .before .before .before .before .before .before .before .before .before .before .before .before .before .before .before .before .before .before .pre .1 .0) (c .before .before .before .before .before .before .before .before .before .before .before .before .before .before .before .before .before .fresh-type .ensures) (c .before .before .before .before .before .before .before .before .before .before .before .before .before .before .before .code .given .1) (c .before .before .before .before .before .before .before .before .before .before .expr .ensures) (c .before .before .before .before .before .before .before .before .o .given .1)) (c .before .before .before .before .before .resolve-type .ensures)) .ready .live, (coded-inner (c .before .before .before .before .before .before .before .before .before .before .before .before .before .before .before .before .before .before .before .before .pre .1 .0) (c .before .before .before .before .before .before .before .before .before .before .before .before .before .before .before .before .before .fresh-type .ensures) (c .before .before .before .before .before .before .before .before .before .before .before .before .before .before .before .code .given .1) (c .before .before .before .before .before .before .before .before .before .before .expr .ensures) (c .before .before .before .before .before .before .before .before .o .given .1) (c .before .before .before .before .before .before .before .before .before .before .before .before .before .before .before .before .before .before .before .before .pre .1 .1), given-accessed (c .before .before .before .before .before .before .before .before .before .before .before .before .before .before .before .before .before .before .before .before .pre .1 .0) _ _ (c .before .before .before .before .accessed .ensures) (c .before .before .t .given .1) _))
 
@@ -60,4 +63,4 @@ module _ (t : ℕ) where
   pub access-field-closed : {M : Type 1} → access-field-lts.Closed (claims t) (access-field-at t) access-field.Post M
   access-field-closed =
       access-field-lts.spec (claims t) (access-field-at t) access-field.Post
-      fresh-type-requires (λ c. search needs) (λ c. search needs) expr-requires (λ c. search needs) (λ c. search needs) resolve-type-requires (λ c κs. search needs) (λ c. search needs) (λ c κs. search needs) (λ c. search needs) field-type-requires returns returns-2 returns-3 returns-4
+      fresh-type-requires (λ c. search needs) (λ c. search needs) expr-requires (λ c. search needs) (λ c. search needs) resolve-type-requires accessed-requires (λ c. search needs) (λ c κs. search needs) (λ c. search needs) field-type-requires returns returns-2 returns-3 returns-4

@@ -31,11 +31,11 @@ claims t = (
 )
 
 abbrev Inv-loop : arms-in-order-lts.InvT-loop
-Inv-loop pack c same marks ret cells₀ slots₀ notes₀ depth id list arms n want vars k₀ ended₀ d₀ used₀ cells slots notes k ended d used =
-    ArmsLeft depth (env pack c same marks ret) id list arms n want vars (st cells₀ slots₀ notes₀) k ended d used (st cells slots notes)
+Inv-loop pack c names same marks ret cells₀ slots₀ notes₀ depth id list arms n want vars k₀ ended₀ d₀ used₀ cells slots notes k ended d used =
+    ArmsLeft depth (env pack c same marks ret) names id list arms n want vars (st cells₀ slots₀ notes₀) k ended d used (st cells slots notes)
 
 abbrev μ-loop : arms-in-order-lts.MeasureT-loop
-μ-loop pack c same marks ret cells₀ slots₀ notes₀ depth id list arms n want vars k₀ ended₀ d₀ used₀ cells slots notes k ended d used = n - k
+μ-loop pack c names same marks ret cells₀ slots₀ notes₀ depth id list arms n want vars k₀ ended₀ d₀ used₀ cells slots notes k ended d used = n - k
 
 module _ (t : ℕ) where
   loop-holds : arms-in-order-lts.Need-loop-holds (claims t) (arms-in-order-at t) arms-in-order.Post Inv-loop μ-loop

@@ -31,11 +31,11 @@ claims t = (
 )
 
 abbrev Inv-loop : fields-in-order-lts.InvT-loop
-Inv-loop pack c same marks ret cells₀ slots₀ notes₀ depth list fields n vars k₀ d₀ used₀ cells slots notes k d used =
-    FieldsLeft depth (env pack c same marks ret) list fields n vars (st cells₀ slots₀ notes₀) k d used (st cells slots notes)
+Inv-loop pack c names same marks ret cells₀ slots₀ notes₀ depth list fields n vars k₀ d₀ used₀ cells slots notes k d used =
+    FieldsLeft depth (env pack c same marks ret) names list fields n vars (st cells₀ slots₀ notes₀) k d used (st cells slots notes)
 
 abbrev μ-loop : fields-in-order-lts.MeasureT-loop
-μ-loop pack c same marks ret cells₀ slots₀ notes₀ depth list fields n vars k₀ d₀ used₀ cells slots notes k d used = n - k
+μ-loop pack c names same marks ret cells₀ slots₀ notes₀ depth list fields n vars k₀ d₀ used₀ cells slots notes k d used = n - k
 
 module _ (t : ℕ) where
   loop-holds : fields-in-order-lts.Need-loop-holds (claims t) (fields-in-order-at t) fields-in-order.Post Inv-loop μ-loop

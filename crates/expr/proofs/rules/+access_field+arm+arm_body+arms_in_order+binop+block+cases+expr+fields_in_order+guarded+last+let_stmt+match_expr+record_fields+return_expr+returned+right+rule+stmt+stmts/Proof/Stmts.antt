@@ -24,11 +24,11 @@ claims t = (
 )
 
 abbrev Inv-loop : stmts-lts.InvT-loop
-Inv-loop pack c same marks ret cells₀ slots₀ notes₀ depth list n vars k₀ d₀ used₀ cells slots notes k d used =
-    StmtsLeft depth (env pack c same marks ret) list n vars (st cells₀ slots₀ notes₀) k d used (st cells slots notes)
+Inv-loop pack c names same marks ret cells₀ slots₀ notes₀ depth list n vars k₀ d₀ used₀ cells slots notes k d used =
+    StmtsLeft depth (env pack c same marks ret) names list n vars (st cells₀ slots₀ notes₀) k d used (st cells slots notes)
 
 abbrev μ-loop : stmts-lts.MeasureT-loop
-μ-loop pack c same marks ret cells₀ slots₀ notes₀ depth list n vars k₀ d₀ used₀ cells slots notes k d used = n - k
+μ-loop pack c names same marks ret cells₀ slots₀ notes₀ depth list n vars k₀ d₀ used₀ cells slots notes k d used = n - k
 
 module _ (t : ℕ) where
   loop-holds : stmts-lts.Need-loop-holds (claims t) (stmts-at t) stmts.Post Inv-loop μ-loop
