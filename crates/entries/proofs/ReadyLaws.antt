@@ -8,6 +8,7 @@
 --     root-checks               what module 4 asks for
 -- Assumes nothing.
 use Prim.Native.Nat.{ℕ, _*_, _≤_, _<_}
+use native.Mathlib.Omega.{arith}
 use mathlib.Core.Path.{_≡_, refl, sym, ap, _∙_}
 use mathlib.Core.Bool.{Bool, true}
 use mathlib.Core.List.{List}
@@ -27,6 +28,7 @@ use Rattle.pack.specs.declared.answer.Reading.the-variants.{Pack, Refused}
 use Rattle.pack.proofs.HeaderLaws.{header-is, header-passed}
 use Rattle.rows.specs.Tables.{rowsOf}
 use Rattle.pack.proofs.CountLaws.{limited}
+use Rattle.names.specs.Index.{most}
 use Rattle.pack.proofs.HeaderLaws.{kept}
 use Rattle.rows.proofs.Promises.{parts-smaller}
 use Rattle.formed.specs.Formed.{bodyOf, formedOf}
@@ -154,3 +156,7 @@ root-checks {p = p} {c = c} e t l =
       room = limited c (well-formed p c e .headed .limits) .types;
       long = l;
     }
+
+-- and its list words are few enough for an index of names
+pub words-few : (p : List ℕ) {c : Counts} → formedOf p ≡ Pack c → c .words ≤ most
+words-few p {c = c} e = omega (arith, limited c (well-formed p c e .headed .limits) .words)

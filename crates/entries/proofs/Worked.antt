@@ -45,7 +45,8 @@ use Rattle.unify.specs.Unify.{resolveOf, settled, numberPlan, anyPlan, planOf, 
 use Rattle.operators.specs.Operators.{compared, number, added, divided, remainder, power, operatorPlan}
 use Rattle.members.specs.Lookup.{isMember, memberOf}
 use Rattle.members.specs.Marks.{isMarked, anyMarked, anyFieldMarked}
-use Rattle.members.specs.Places.{any as anyPlace, tally}
+use Rattle.names.specs.Tally.{tally}
+use Rattle.members.specs.Places.{any as anyPlace}
 use Rattle.members.specs.Types.{isRow, namedBy, isList}
 use Rattle.arms.specs.Match.{subjectFor, subjectOf, payloadFault, armFault, covers, covered, missingVariants}
 use Rattle.slots.specs.Slots.{opened, openAll, openList, openPairs, shut, closeList, letSlot, closeLets}

@@ -11,11 +11,13 @@ use crate::answers::report;
 use crate::ready::ready_to_check;
 use expr::Checked;
 use expr::check_root;
+use names::NameIndex;
+use names::fill_names;
 use pack::Counts;
 use pack::Reading;
 use structure::number_rows;
 
-// The root of a well-formed pack, its rows numbered by structure first.
+// The root of a well-formed pack, its rows numbered by structure and its names put in order first.
 fn check_numbered(pack: &[u8], c: Counts, root: u32, area: &mut [u8]) -> Checked
     requires { ⌜ (formedOf (now pack) ≡ Pack c) × (4 * c .expressions ≤ length (now area)) ⌝ }
     ensures { λ r. ⌜ checked r (now (area .exit)) ≡ checkedIn (now (pack .entry)) c root (now (area .entry)) ⌝ }
@@ -23,7 +25,9 @@ fn check_numbered(pack: &[u8], c: Counts, root: u32, area: &mut [u8]) -> Checked
     let table = number_rows(pack, c);
     let same = table.same;
     let marks = table.marks;
-    check_root(pack, c, &same, &marks, root, area)
+    let mut index = NameIndex::empty();
+    fill_names(pack, c, &mut index.table);
+    check_root(pack, c, &index.table, &same, &marks, root, area)
 }
 
 fn check_one(pack: &[u8], root: u64, area: &mut [u8]) -> Checked
