@@ -25,7 +25,7 @@ use Rattle.entries.proofs.ReadyLaws.{root-checks}
 use Rattle.check_pack.specs.Whole.{Whole, whole, orderVerdict, orderPart, accepted, rootsAnswer, afterRoots, rootsPart, afterTypes, wholeOf}
 use Rattle.check_pack.specs.declared.whole.Verdict.the-variants.{NoTypes}
 
-few : (p : List ℕ) (c : Counts) → formedOf p ≡ Pack c → Limited c
+pub few : (p : List ℕ) (c : Counts) → formedOf p ≡ Pack c → Limited c
 few p c e = limited c (well-formed p c e .headed .limits)
 
 -- the order's answer is o, which is of the case a

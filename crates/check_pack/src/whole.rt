@@ -1,4 +1,4 @@
-// A pack asked all that the entries ask, its rows checked and numbered once: how far it comes, and the refusal where it stops.
+// A pack asked all that the entries ask, its rows checked and numbered and its names put in order once: how far it comes, and the refusal where it stops.
 ghost use mathlib.Core.Path.{_≡_};
 ghost use Prim.Native.Nat.{_≤_};
 ghost use lib.ListN.{length};
@@ -11,6 +11,8 @@ use entries::check_types;
 use expr::Checked;
 use expr::check_root;
 use laws::Refusal;
+use names::NameIndex;
+use names::fill_names;
 use pack::Counts;
 use pack::Reading;
 use structure::number_rows;
@@ -55,11 +57,13 @@ fn check_roots(pack: &[u8], c: Counts) -> Checked
     let table = number_rows(pack, c);
     let same = table.same;
     let marks = table.marks;
+    let mut index = NameIndex::empty();
+    fill_names(pack, c, &mut index.table);
     let mut words = [0u8; WORDS];
     let n = c.roots;
     let mut i = 0;
     while i < n {
-        let answer = check_root(pack, c, &same, &marks, i, &mut words);
+        let answer = check_root(pack, c, &index.table, &same, &marks, i, &mut words);
         match answer {
             Checked::Report => {
                 i += 1;
