@@ -16,7 +16,7 @@ use Rattle.laws.specs.Bounded.{get}
 use Rattle.laws.proofs.Choice.{by-eq}
 use Rattle.laws.proofs.First.{Until, until-is, at-first, none-is}
 use Rattle.laws.proofs.Members.{by-le}
-use Rattle.names.specs.Index.{noKey, most, capacity, placeAt, startOf, rankOf, Sorted, Rising}
+use Rattle.names.specs.Index.{noName, most, capacity, seatAt, startOf, rankOf, Sorted, Rising}
 use Rattle.names.proofs.Ranks.{start-le, start-few, rank-low, rank-high, rank-rises, rank-nth}
 
 pub until-only : (ok : ℕ → Bool) (i n u : ℕ) → Until ok i n u → u ≡ until ok i n
@@ -32,14 +32,14 @@ pub record Seeking (table : List ℕ) (x low high from to : ℕ) : Type 0 where
   pub first : low ≤ from
   pub order : from ≤ to
   pub last : to ≤ high
-  pub below : (i : ℕ) → low ≤ i → i < from → placeAt table i < x
-  pub above : (i : ℕ) → to ≤ i → i < high → x ≤ placeAt table i
+  pub below : (i : ℕ) → low ≤ i → i < from → seatAt table i < x
+  pub above : (i : ℕ) → to ≤ i → i < high → x ≤ seatAt table i
 
 module _ {table : List ℕ} {low high : ℕ} (r : Rising table low high) where
   pub seek-begins : (x : ℕ) → Seeking table x low high low high
   seek-begins x = record { first = omega arith; order = r .order; last = omega arith; below = λ i a b. absurd (omega arith); above = λ i a b. absurd (omega arith) }
 
-  module _ {x from to m v : ℕ} (s : Seeking table x low high from to) (a : from ≤ m) (b : m < to) (e : v ≡ placeAt table m) where
+  module _ {x from to m v : ℕ} (s : Seeking table x low high from to) (a : from ≤ m) (b : m < to) (e : v ≡ seatAt table m) where
     pub seek-up : v < x → Seeking table x low high (m + 1) to
     seek-up h =
         record {
@@ -60,19 +60,19 @@ module _ {table : List ℕ} {low high : ℕ} (r : Rising table low high) where
           above = λ i f g. omega (arith, e, h, r .rises m i (omega (arith, s .first)) f g);
         }
 
-pub seek-ends : {table : List ℕ} {x low high from to : ℕ} → Seeking table x low high from to → to ≤ from → from ≡ until (λ m. ltb (placeAt table m) x) low high
+pub seek-ends : {table : List ℕ} {x low high from to : ℕ} → Seeking table x low high from to → to ≤ from → from ≡ until (λ m. ltb (seatAt table m) x) low high
 seek-ends {table = table} {x = x} {low = low} {high = high} {from = from} s h =
-    until-only (λ m. ltb (placeAt table m) x) low high from
+    until-only (λ m. ltb (seatAt table m) x) low high from
     (record {
       low = s .first;
       high = omega (arith, s .order, s .last);
-      right = λ k a b. lt-ltb (placeAt table k) x (s .below k a b);
-      wrong = λ l. le-ltb (placeAt table from) x (s .above from h l);
+      right = λ k a b. lt-ltb (seatAt table k) x (s .below k a b);
+      wrong = λ l. le-ltb (seatAt table from) x (s .above from h l);
     })
 
 -- ---- the index
 
-module _ {key : ℕ → ℕ} {n : ℕ} {table : List ℕ} (s : Sorted key n table) {k low high : ℕ} (l : k < noKey) (a : low ≡ get capacity table k) (b : high ≡ get capacity table (k + 1)) where
+module _ {key : ℕ → ℕ} {n : ℕ} {table : List ℕ} (s : Sorted key n table) {k low high : ℕ} (l : k < noName) (a : low ≡ get capacity table k) (b : high ≡ get capacity table (k + 1)) where
   starts : low ≡ startOf key n k
   starts = a ∙ s .starts k (omega arith)
 
@@ -80,10 +80,10 @@ module _ {key : ℕ → ℕ} {n : ℕ} {table : List ℕ} (s : Sorted key n tabl
   ends = b ∙ s .starts (k + 1) (omega arith)
 
   -- the word at a place of the key
-  word : (m : ℕ) → low ≤ m → m < high → (j : ℕ) × (j < n) × (key j ≡ k) × (rankOf key n j ≡ m) × (placeAt table m ≡ j)
+  word : (m : ℕ) → low ≤ m → m < high → (j : ℕ) × (j < n) × (key j ≡ k) × (rankOf key n j ≡ m) × (seatAt table m ≡ j)
   word m f g =
       let r = rank-nth key n k m (omega (arith, starts)) (omega (arith, ends)) in
-      (r .0, r .1, r .2, r .3, rw (r .3) at (s .places (r .0) (r .1)))
+      (r .0, r .1, r .2, r .3, rw (r .3) at (s .seats (r .0) (r .1)))
 
   pub rising : Rising table low high
   rising =
@@ -103,13 +103,13 @@ module _ {key : ℕ → ℕ} {n : ℕ} {table : List ℕ} (s : Sorted key n tabl
   ranked : (j : ℕ) → j < n → key j ≡ k → (low ≤ rankOf key n j) × (rankOf key n j < high)
   ranked j h e = (omega (arith, starts, rw e at (rank-low key n j)), omega (arith, ends, rw e at (rank-high key n j h)))
 
-  module _ (x : ℕ) {m : ℕ} (q : m ≡ until (λ i. ltb (placeAt table i) x) low high) where
-    found : Until (λ i. ltb (placeAt table i) x) low high m
-    found = rw q (until-is (λ i. ltb (placeAt table i) x) low high (rising .order))
+  module _ (x : ℕ) {m : ℕ} (q : m ≡ until (λ i. ltb (seatAt table i) x) low high) where
+    found : Until (λ i. ltb (seatAt table i) x) low high m
+    found = rw q (until-is (λ i. ltb (seatAt table i) x) low high (rising .order))
 
     -- a word of the key that comes before m stands before x
     before : (j : ℕ) → j < n → key j ≡ k → rankOf key n j < m → j < x
-    before j h e w = omega (arith, ltb-true (placeAt table (rankOf key n j)) x (found .right (rankOf key n j) (ranked j h e .0) w), s .places j h)
+    before j h e w = omega (arith, ltb-true (seatAt table (rankOf key n j)) x (found .right (rankOf key n j) (ranked j h e .0) w), s .seats j h)
 
     pub word-none : high ≤ m → x ≤ n → n ≡ until (λ j. not (eqb (key j) k)) x n
     word-none h o =
@@ -121,17 +121,17 @@ module _ {key : ℕ → ℕ} {n : ℕ} {table : List ℕ} (s : Sorted key n tabl
           wrong = λ g. absurd (omega arith);
         })
 
-    pub word-found : m < high → placeAt table m ≡ until (λ j. not (eqb (key j) k)) x n
+    pub word-found : m < high → seatAt table m ≡ until (λ j. not (eqb (key j) k)) x n
     word-found h =
         let u = word m (found .low) h in
-        until-only (λ j. not (eqb (key j) k)) x n (placeAt table m)
+        until-only (λ j. not (eqb (key j) k)) x n (seatAt table m)
         (record {
-          low = ltb-false (placeAt table m) x (found .wrong h);
+          low = ltb-false (seatAt table m) x (found .wrong h);
           high = omega (arith, u .4, u .1);
           right =
               λ j f g.
               ap not
               (ne-eqb (key j) k
               (λ e. absurd (omega (arith, before j (omega (arith, u .4, u .1)) e (omega (arith, u .3, rank-rises key n j (u .0) (omega (arith, u .4)) (e ∙ sym (u .2))))))));
-          wrong = λ g. ap not (eq-eqb (key (placeAt table m)) k (ap key (u .4) ∙ u .2));
+          wrong = λ g. ap not (eq-eqb (key (seatAt table m)) k (ap key (u .4) ∙ u .2));
         })

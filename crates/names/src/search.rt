@@ -1,27 +1,28 @@
-// Names found through the index: by a search of the places of one key, which rise.
+// Names found through the index: by a search of the seats of one key, which rise.
 ghost use mathlib.Core.Path.{_≡_};
 ghost use mathlib.Core.Bool.{not};
 ghost use Prim.Native.Nat.{_+_, _*_, _<_, _≤_};
 ghost use lib.Dec.{eqb, ltb};
 ghost use Rattle.laws.specs.First.{until};
 ghost use Rattle.pack.specs.Lists.{pairOf};
-ghost use Rattle.names.specs.Index.{noName, noKey, placeAt, keyAt, Indexed, Rising, nextItem};
+ghost use Rattle.names.specs.Index.{noName, seatAt, keyAt, Indexed, Rising, nextItem};
 use crate::index::NameIndex;
 use crate::index::entry_at;
+use crate::index::seat_of;
 use pack::Counts;
 use pack::list_item;
 use pack::list_len;
 
-// Of the places low .. high - 1, which rise: the first that is not below x.
+// Of the seats low .. high - 1 of all, which rise: the first that is not below x.
 fn seek(names: &[u16; NameIndex::CAPACITY], low: u32, high: u32, x: u32) -> u32
     requires { ⌜ Rising (now names) low high ⌝ }
-    ensures { λ r. ⌜ r ≡ until (λ m. ltb (placeAt (now (names .entry)) m) x) low high ⌝ }
+    ensures { λ r. ⌜ r ≡ until (λ m. ltb (seatAt (now (names .entry)) m) x) low high ⌝ }
 {
     let mut from = low;
     let mut to = high;
     while from < to {
         let middle = (from + to) / 2;
-        if entry_at(names, NameIndex::PLACES + middle) < x {
+        if entry_at(names, NameIndex::SEATS + middle) < x {
             from = middle + 1;
         } else {
             to = middle;
@@ -30,16 +31,16 @@ fn seek(names: &[u16; NameIndex::CAPACITY], low: u32, high: u32, x: u32) -> u32
     from
 }
 
-// The first list word from x on that has the key, the number of all words where there is none.
-fn word_from(pack: &[u8], c: Counts, names: &[u16; NameIndex::CAPACITY], key: u32, x: u32) -> u32
-    requires { ⌜ Indexed (now pack) c (now names) × (key < noKey) × (x ≤ c .words) ⌝ }
+// The first seat from x on whose word has the key, the number of all words where there is none.
+fn seat_from(pack: &[u8], c: Counts, names: &[u16; NameIndex::CAPACITY], key: u32, x: u32) -> u32
+    requires { ⌜ Indexed (now pack) c (now names) × (key < noName) × (x ≤ c .words) ⌝ }
     ensures { λ r. ⌜ r ≡ until (λ j. not (eqb (keyAt (now (pack .entry)) c j) key)) x (c .words) ⌝ }
 {
     let low = entry_at(names, key);
     let high = entry_at(names, key + 1);
     let m = seek(names, low, high, x);
     if m < high {
-        entry_at(names, NameIndex::PLACES + m)
+        entry_at(names, NameIndex::SEATS + m)
     } else {
         c.words
     }
@@ -59,9 +60,8 @@ fn item_from(
     requires { ⌜ Indexed (now pack) c (now names) × (i ≤ n) × (name < noName) × (s + 1 + 2 * n ≤ c .words) ⌝ }
     ensures { λ r. ⌜ r ≡ nextItem (now (pack .entry)) c s i n name ⌝ }
 {
-    let x = s + 1 + 2 * i;
-    let j = word_from(pack, c, names, 2 * name + x % 2, x);
-    let k = (j - s - 1) / 2;
+    let first = seat_of(c.words, s + 1);
+    let k = seat_from(pack, c, names, name, first + i) - first;
     if k < n { k } else { n }
 }
 

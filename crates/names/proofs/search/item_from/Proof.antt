@@ -1,40 +1,30 @@
--- `item_from`: by the first word of the name's key.
-use mathlib.Core.Path.{refl}
-use Rattle.names.proofs.Items.{item-low, item-found, item-none}
+-- `item_from`: by the first seat of the name.
+use Rattle.names.proofs.Items.{item-room, item-low, item-found, item-none}
 use borrow.Author.Needs.{needs}
 use native.Mathlib.Omega.{arith}
 use Rattle.names.proofs.search.item_from.Statement.{statement}
 use Rattle.names.proofs.search.item_from.Tie as tie
 
-add-x : tie.Need-add-x
-add-x c = omega (arith, c .before .pre .3, c .before .pre .0 .sorted .few)
+add-seat-of : tie.Need-add-seat-of
+add-seat-of c = omega (arith, c .before .pre .3, c .before .pre .0 .sorted .few)
 
-mul-x : tie.Need-mul-x
-mul-x c = omega (arith, c .before .pre .1, c .before .pre .3, c .before .pre .0 .sorted .few)
+seat-of-requires : tie.Need-seat-of-requires
+seat-of-requires c κs = (omega (arith, c .before .pre .3), c .before .pre .0 .sorted .few)
 
-add-x-2 : tie.Need-add-x-2
-add-x-2 c = omega (arith, c .before .pre .1, c .before .pre .3, c .before .pre .0 .sorted .few)
+add-seat-from : tie.Need-add-seat-from
+add-seat-from c = omega (arith, item-room _ _ _ (c .before .before .pre .1) (c .before .before .pre .3) (c .seat-of .ensures), c .before .before .pre .0 .sorted .few)
 
-mul-word-from : tie.Need-mul-word-from
-mul-word-from c = omega (arith, c .before .pre .2)
-
-add-word-from : tie.Need-add-word-from
-add-word-from c = omega (arith, c .before .pre .2)
-
-word-from-requires : tie.Need-word-from-requires
-word-from-requires c κs = (c .before .pre .0, omega (arith, c .before .pre .2), omega (arith, c .before .pre .1, c .before .pre .3))
+seat-from-requires : tie.Need-seat-from-requires
+seat-from-requires c κs = (c .before .before .pre .0, c .before .before .pre .2, item-room _ _ _ (c .before .before .pre .1) (c .before .before .pre .3) (c .seat-of .ensures))
 
 sub-k : tie.Need-sub-k
-sub-k c = omega (arith, item-low _ _ _ _ _ _ (c .before .before .pre .1) (c .before .before .pre .2) (c .before .before .pre .3) refl (c .word-from .ensures))
-
-sub-k-2 : tie.Need-sub-k-2
-sub-k-2 c = omega (arith, item-low _ _ _ _ _ _ (c .before .before .pre .1) (c .before .before .pre .2) (c .before .before .pre .3) refl (c .word-from .ensures))
+sub-k c = omega (arith, item-low _ _ _ _ _ _ (c .before .before .before .pre .1) (c .before .before .before .pre .2) (c .before .before .before .pre .3) (c .before .seat-of .ensures) (c .seat-from .ensures))
 
 returns : tie.Need-returns
-returns c = item-found _ _ _ _ _ _ (c .before .before .before .pre .1) (c .before .before .before .pre .2) (c .before .before .before .pre .3) refl (c .before .word-from .ensures) (c .if1 .taken)
+returns c = item-found _ _ _ _ _ _ (c .before .before .before .before .pre .1) (c .before .before .before .before .pre .2) (c .before .before .before .before .pre .3) (c .before .before .seat-of .ensures) (c .before .seat-from .ensures) (c .if1 .taken)
 
 returns-2 : tie.Need-returns-2
-returns-2 c = item-none _ _ _ _ _ _ (c .before .before .before .pre .1) (c .before .before .before .pre .2) (c .before .before .before .pre .3) refl (c .before .word-from .ensures) (c .if1 .left)
+returns-2 c = item-none _ _ _ _ _ _ (c .before .before .before .before .pre .1) (c .before .before .before .before .pre .2) (c .before .before .before .before .pre .3) (c .before .before .seat-of .ensures) (c .before .seat-from .ensures) (c .if1 .left)
 
 pub item-from-spec : {M : Type 1} → statement M
-item-from-spec = tie.close (tie.spec add-x mul-x add-x-2 mul-word-from add-word-from word-from-requires sub-k sub-k-2 returns returns-2)
+item-from-spec = tie.close (tie.spec add-seat-of seat-of-requires add-seat-from seat-from-requires sub-k returns returns-2)

@@ -1,10 +1,10 @@
--- `word_from`: the first place of the key that is not below x.
+-- `seat_from`: the first place of the key that is not below x.
 use mathlib.Core.Path.{_∙_}
 use Rattle.names.proofs.Seeking.{rising, word-found, word-none}
 use borrow.Author.Needs.{needs}
 use native.Mathlib.Omega.{arith}
-use Rattle.names.proofs.search.word_from.Statement.{statement}
-use Rattle.names.proofs.search.word_from.Tie as tie
+use Rattle.names.proofs.search.seat_from.Statement.{statement}
+use Rattle.names.proofs.search.seat_from.Tie as tie
 
 entry-at-requires : tie.Need-entry-at-requires
 entry-at-requires c κs = omega (arith, c .before .pre .1)
@@ -30,5 +30,5 @@ returns c = c .entry-at3 .ensures .same ∙ word-found (c .before .before .befor
 returns-2 : tie.Need-returns-2
 returns-2 c = word-none (c .before .before .before .before .before .pre .0 .sorted) (c .before .before .before .before .before .pre .1) (c .before .before .before .entry-at .ensures .same) (c .before .before .entry-at2 .ensures .same) _ (c .before .seek .ensures) (c .if1 .left) (c .before .before .before .before .before .pre .2)
 
-pub word-from-spec : {M : Type 1} → statement M
-word-from-spec = tie.close (tie.spec entry-at-requires add-entry-at entry-at-requires-2 seek-requires add-entry-at-2 entry-at-requires-3 returns returns-2)
+pub seat-from-spec : {M : Type 1} → statement M
+seat-from-spec = tie.close (tie.spec entry-at-requires add-entry-at entry-at-requires-2 seek-requires add-entry-at-2 entry-at-requires-3 returns returns-2)
