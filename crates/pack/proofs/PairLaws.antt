@@ -18,6 +18,11 @@ use Rattle.pack.specs.Counts.{listsAt}
 use Rattle.pack.specs.Lists.{listWord, listItem, listLen, pairOf, PairsInside}
 use Rattle.pack.specs.declared.counts.Counts.{Counts}
 
+-- two bytes make a word
+pub joined : (p : List ℕ) (i : ℕ) {a b : ℕ} → Reads a (byteAt p i) 256 → Reads b (byteAt p (i + 1)) 256 → Reads (a * 256 + b) (wordAt p i) 65536
+unfolding wordAt
+joined p i r q = record { same = omega (arith, r .same, q .same); small = omega (arith, r .small, q .small) }
+
 module _ (p : List ℕ) (i word : ℕ) {a b : ℕ} (r : Reads a (byteAt p i) 256) (q : Reads b (byteAt p (i + 1)) 256) where
   pub same-word : a ≡ word / 256 → eqb b (word % 256) ≡ eqb (wordAt p i) word
   unfolding wordAt

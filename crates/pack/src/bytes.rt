@@ -1,6 +1,7 @@
 // Numbers read from bytes, most significant byte first, 0 past the end.
 ghost use mathlib.Core.Path.{_≡_};
-ghost use Prim.Native.Nat.{_<_};
+ghost use Prim.Native.Nat.{_+_, _<_};
+ghost use lib.ListN.{length};
 ghost use Rattle.pack.specs.Read.{byteAt, wordAt, row32, row64, startsWith};
 ghost use Rattle.laws.specs.Bounded.{Reads};
 
@@ -17,12 +18,42 @@ pub fn byte_at(pack: &[u8], i: usize) -> u32
     if i < pack.len() { wide(pack[i]) } else { 0 }
 }
 
+// A word, a row of 32 bits and one of 64 that lie in the pack: read with no test of its end, so that their bytes are loaded together.
+fn word_inside(pack: &[u8], i: usize) -> u32
+    requires { ⌜ i + 1 < length (now pack) ⌝ }
+    ensures { λ r. ⌜ Reads r (wordAt (now (pack .entry)) i) 65536 ⌝ }
+{
+    let first = wide(pack[i]);
+    let second = wide(pack[i + 1]);
+    first * 256 + second
+}
+
+fn row_32_inside(pack: &[u8], i: usize) -> u32
+    requires { ⌜ i + 3 < length (now pack) ⌝ }
+    ensures { λ r. ⌜ r ≡ row32 (now (pack .entry)) i ⌝ }
+{
+    word_inside(pack, i) * 65536 + word_inside(pack, i + 2)
+}
+
+fn row_64_inside(pack: &[u8], i: usize) -> u64
+    requires { ⌜ i + 7 < length (now pack) ⌝ }
+    ensures { λ r. ⌜ r ≡ row64 (now (pack .entry)) i ⌝ }
+{
+    let high = row_32_inside(pack, i) as u64;
+    let low = row_32_inside(pack, i + 4) as u64;
+    high * 4294967296 + low
+}
+
 // The word of 16 bits at i.
 pub fn word_at(pack: &[u8], i: usize) -> u32
     ensures { λ r. ⌜ Reads r (wordAt (now (pack .entry)) i) 65536 ⌝ }
 {
     if i < pack.len() {
-        byte_at(pack, i) * 256 + byte_at(pack, i + 1)
+        if 1 < pack.len() - i {
+            word_inside(pack, i)
+        } else {
+            byte_at(pack, i) * 256 + byte_at(pack, i + 1)
+        }
     } else {
         0
     }
@@ -33,7 +64,11 @@ pub fn row_32(pack: &[u8], i: usize) -> u32
     ensures { λ r. ⌜ r ≡ row32 (now (pack .entry)) i ⌝ }
 {
     if i < pack.len() {
-        word_at(pack, i) * 65536 + word_at(pack, i + 2)
+        if 3 < pack.len() - i {
+            row_32_inside(pack, i)
+        } else {
+            word_at(pack, i) * 65536 + word_at(pack, i + 2)
+        }
     } else {
         0
     }
@@ -44,9 +79,13 @@ pub fn row_64(pack: &[u8], i: usize) -> u64
     ensures { λ r. ⌜ r ≡ row64 (now (pack .entry)) i ⌝ }
 {
     if i < pack.len() {
-        let high = row_32(pack, i) as u64;
-        let low = row_32(pack, i + 4) as u64;
-        high * 4294967296 + low
+        if 7 < pack.len() - i {
+            row_64_inside(pack, i)
+        } else {
+            let high = row_32(pack, i) as u64;
+            let low = row_32(pack, i + 4) as u64;
+            high * 4294967296 + low
+        }
     } else {
         0
     }

@@ -5,12 +5,12 @@ use borrow.Author.Needs.{needs}
 use Rattle.pack.proofs.bytes.word_at.Statement.{statement}
 use Rattle.pack.proofs.bytes.word_at.Tie as tie
 
-returns : tie.Need-returns
-unfolding wordAt
-returns c = search needs
-
 returns-2 : tie.Need-returns-2
-returns-2 c = record { same = sym (word-past _ _ (c .if1 .left)); small = search needs }
+unfolding wordAt
+returns-2 c = search needs
+
+returns-3 : tie.Need-returns-3
+returns-3 c = record { same = sym (word-past _ _ (c .if1 .left)); small = search needs }
 
 pub word-at-spec : {M : Type 1} → statement M
-word-at-spec = tie.close (tie.spec (λ c κs. search needs) (λ c. search needs) (λ c. search needs) (λ c κs. search needs) (λ c. search needs) returns returns-2)
+word-at-spec = tie.close (tie.spec (λ c. search needs) (λ c κs. search needs) (λ c κs. search needs) (λ c. search needs) (λ c. search needs) (λ c κs. search needs) (λ c. search needs) (λ c. c .word-inside .ensures) returns-2 returns-3)
