@@ -1,4 +1,4 @@
 pub mod Past
 pub mod HeaderLaws
 pub mod CountLaws
-pub mod PairLaws
+pub mod WordLaws

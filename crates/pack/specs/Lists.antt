@@ -1,10 +1,8 @@
 -- "A list is a count word, then its items."
-use Prim.Native.Nat.{ℕ, _+_, _*_, _≤_}
-use mathlib.Core.Path.{_≡_}
+use Prim.Native.Nat.{ℕ, _+_, _*_}
 use mathlib.Core.List.{List}
 use mathlib.Core.Bool.{not}
 use lib.Dec.{eqb}
-use lib.ListN.{length}
 use Rattle.laws.specs.First.{until}
 use Rattle.pack.specs.Read.{wordAt}
 use Rattle.pack.specs.Counts.{listsAt}
@@ -24,9 +22,3 @@ listItem p c s k = listWord p c (s + 1 + k)
 -- of the list of pairs at word s: the first whose first word is that one, the number of pairs if there is none
 unfoldable pub pairOf : List ℕ → Counts → ℕ → ℕ → ℕ
 pairOf p c s word = until (λ k. not (eqb (listItem p c s (2 * k)) word)) 0 (listLen p c s)
-
--- its n pairs start at byte `at` and lie in the pack
-pub record PairsInside (p : List ℕ) (c : Counts) (s at n : ℕ) : Type 0 where
-  pub start : at ≡ listsAt c + 2 * (s + 1)
-  pub many : n ≡ listLen p c s
-  pub inside : at + 4 * n ≤ length p

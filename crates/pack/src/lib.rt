@@ -5,7 +5,6 @@ mod bytes;
 mod counts;
 mod head;
 mod lists;
-mod pairs;
 mod rows;
 
 pub use answer::Reading;
@@ -14,7 +13,6 @@ pub use counts::Counts;
 pub use head::header;
 pub use lists::list_item;
 pub use lists::list_len;
-pub use pairs::pair_of;
 pub use rows::DefinitionRow;
 pub use rows::ExpressionRow;
 pub use rows::RootRow;

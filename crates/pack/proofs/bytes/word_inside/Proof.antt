@@ -1,5 +1,5 @@
 use Rattle.pack.specs.Read.{byteAt}
-use Rattle.pack.proofs.PairLaws.{joined}
+use Rattle.pack.proofs.WordLaws.{joined}
 use borrow.Author.Needs.{needs}
 use Rattle.pack.proofs.bytes.word_inside.Statement.{statement}
 use Rattle.pack.proofs.bytes.word_inside.Tie as tie
