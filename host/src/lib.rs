@@ -65,6 +65,16 @@ pub use call::{check_root, check_types, order};
 pub use refusal::Refusal;
 pub use word::{Call, Primitive, Type, Word};
 
+/// The stack that a call of this crate needs, at most, whatever the bytes of the pack: 1 MiB. A thread made for calls can
+/// be given this much and no more:
+///
+/// ```
+/// let asked = std::thread::Builder::new().stack_size(rulepack::STACK).spawn(|| rulepack::check_types(b"no pack"));
+/// assert_eq!(asked?.join().unwrap().unwrap_err().number, 1);
+/// # Ok::<(), std::io::Error>(())
+/// ```
+pub const STACK: usize = 1 << 20;
+
 /// A node of a root and what the report says of it.
 #[derive(Clone, Copy, Debug, PartialEq, Eq)]
 pub struct Node {

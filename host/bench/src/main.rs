@@ -222,7 +222,7 @@ fn rows(group: &str) {
             }
         }
         _ => {
-            let pack = inputs::full();
+            let pack = model::full::full();
             let mut area = vec![0; 4 * 4096];
             row("types", &mut [&mut || rulepack::check_types(black_box(&pack)).expect("accepted")]);
             row(
@@ -306,7 +306,7 @@ fn cases() -> Vec<(String, String)> {
 
 fn pack(name: &str) -> Vec<u8> {
     if name == "a full accepted pack" {
-        return inputs::full();
+        return model::full::full();
     }
     inputs::hostile().into_iter().find(|(n, _)| *n == name).expect("a pack of this name").1
 }
@@ -355,7 +355,7 @@ fn main() {
         ["cases"] => cases().iter().for_each(|(function, name)| println!("{function}\t{}", name.replace('/', "\t"))),
         ["one", case] => one(case),
         ["write", folder] => {
-            std::fs::write(format!("{folder}/full.rpk"), inputs::full()).expect("a file");
+            std::fs::write(format!("{folder}/full.rpk"), model::full::full()).expect("a file");
         }
         _ => {
             eprintln!("bench times | rows GROUP | cases | one CASE | write FOLDER");

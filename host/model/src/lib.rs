@@ -6,8 +6,10 @@
 //!
 //! The makers of packs ([`make`], [`generate`]) are here too.
 
+pub mod deepest;
 pub mod exhaustive;
 pub mod formed;
+pub mod full;
 pub mod generate;
 pub mod make;
 pub mod order;

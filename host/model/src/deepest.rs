@@ -1,0 +1,373 @@
+//! The packs that need the most stack, by name: each kind of expression nested as deep as may be, the longest lists, the
+//! longest chains of variables, types, definitions and values.
+
+use crate::exhaustive::{deep, many_accesses, many_variables, nested_accesses, wide_match, wide_record};
+use crate::make::{Maker, Pattern, op};
+
+/// The deepest that an expression may stand.
+const DEPTH: usize = 64;
+const TYPES: usize = 2048;
+const DEFINITIONS: usize = 512;
+const VALUES: usize = 1024;
+
+/// A bare integer, and a literal of type bool.
+const BARE: usize = 5;
+const BOOL: usize = 4;
+
+/// The rows that the makers below begin with.
+const UNIT: usize = 0;
+const BOOL_ROW: usize = 1;
+const I64: usize = 2;
+const ENUM: usize = 3;
+const RECORD: usize = 4;
+
+/// Unit, bool, i64, an enum of two variants (the first without fields, the second with a unit), and a record whose field 0
+/// is of its own type.
+fn begun() -> Maker {
+    let mut maker = Maker::new();
+    let none = maker.singles(&[]);
+    maker.type_row(1, 0, 0);
+    maker.primitive(4);
+    maker.primitive(11);
+    maker.type_row(4, 0, none);
+    maker.type_row(4, 1, none);
+    let payload = maker.singles(&[UNIT]);
+    let variants = maker.pairs(&[(0, none), (1, payload)]);
+    maker.definition(0, 0, variants);
+    let fields = maker.pairs(&[(0, RECORD)]);
+    maker.definition(1, 0, fields);
+    maker
+}
+
+/// The parameters of a root over these rows: slot 0 is of the enum, slot 1 of the record.
+const PARAMETERS: [(usize, usize); 2] = [(0, ENUM), (1, RECORD)];
+
+/// A node wrapped so often, each time by one level, and a root of it.
+fn nested(first: fn(&mut Maker) -> usize, times: usize, returns: usize, wrap: fn(&mut Maker, usize) -> usize) -> Maker {
+    let mut maker = begun();
+    let mut node = first(&mut maker);
+    for _ in 0..times {
+        node = wrap(&mut maker, node);
+    }
+    maker.root(node, returns, &PARAMETERS);
+    maker
+}
+
+/// So many record expressions, each the field of the next.
+pub fn nested_records(records: usize) -> Maker {
+    nested(|m| m.slot(1), records, RECORD, |m, inner| m.record(1, &[(0, inner)]))
+}
+
+/// A match on the enum whose first arm has this guard and this body.
+fn matched(maker: &mut Maker, examinee: usize, guard: Option<usize>, body: usize, other: usize) -> usize {
+    maker.match_expr(examinee, &[(Pattern::Variant(0, None), guard, body), (Pattern::Underscore, None, other)])
+}
+
+/// A match with so many arms, each of a bare number: a chain of as many variables. The first arm's body is slot 2, so that
+/// what was bound to it stands at the chain's end.
+fn arms_of_numbers(maker: &mut Maker, arms: usize) -> usize {
+    let examinee = maker.slot(0);
+    let mut all = vec![(Pattern::Variant(0, None), None, maker.slot(2))];
+    for _ in 0..arms {
+        all.push((Pattern::Variant(0, None), None, maker.literal(BARE)));
+    }
+    all.push((Pattern::Underscore, None, maker.literal(BARE)));
+    maker.match_expr(examinee, &all)
+}
+
+/// `{ let s = 1; match .. { a chain of variables }; NODE }` where the node has a statement that uses s, so many levels
+/// down. The node is of the record type.
+fn over_a_chain(arms: usize, levels: usize, wrap: fn(&mut Maker, usize) -> usize) -> Maker {
+    let mut maker = begun();
+    let one = maker.literal(BARE);
+    let bound = maker.let_statement(2, one, None);
+    let chain = arms_of_numbers(&mut maker, arms);
+    let (used, last) = (maker.slot(2), maker.slot(1));
+    let mut node = maker.block(&[used], Some(last));
+    for _ in 0..levels {
+        node = wrap(&mut maker, node);
+    }
+    let block = maker.block(&[bound, chain], Some(node));
+    maker.root(block, RECORD, &PARAMETERS);
+    maker
+}
+
+/// A tree of And over this many literals.
+fn conjunction(leaves: usize) -> Maker {
+    let mut maker = begun();
+    let mut level: Vec<usize> = (0..leaves).map(|_| maker.literal(BOOL)).collect();
+    while level.len() > 1 {
+        level = level
+            .chunks(2)
+            .map(|two| if let [left, right] = two { maker.operator(op::AND, *left, *right) } else { two[0] })
+            .collect();
+    }
+    maker.root(level[0], BOOL_ROW, &PARAMETERS);
+    maker
+}
+
+/// Expressions nested as deep as may be.
+fn expressions() -> Vec<(&'static str, Maker)> {
+    let unit: fn(&mut Maker) -> usize = |m| m.literal(7);
+    let yes: fn(&mut Maker) -> usize = |m| m.literal(BOOL);
+    let bare: fn(&mut Maker) -> usize = |m| m.literal(BARE);
+    let most = DEPTH - 1;
+    vec![
+        ("63 records nested", nested_records(most)),
+        ("63 blocks nested as last expressions", deep(DEPTH)),
+        ("63 blocks nested as statements", nested(unit, most, UNIT, |m, inner| m.block(&[inner], None))),
+        (
+            "63 matches nested as bodies",
+            nested(unit, most, UNIT, |m, inner| {
+                let (examinee, other) = (m.slot(0), m.literal(7));
+                matched(m, examinee, None, inner, other)
+            }),
+        ),
+        (
+            "63 matches nested as last bodies",
+            nested(unit, most, UNIT, |m, inner| {
+                let (examinee, other) = (m.slot(0), m.literal(7));
+                matched(m, examinee, None, other, inner)
+            }),
+        ),
+        (
+            "63 matches nested as guards",
+            nested(yes, most, BOOL_ROW, |m, inner| {
+                let (examinee, body, other) = (m.slot(0), m.literal(BOOL), m.literal(BOOL));
+                matched(m, examinee, Some(inner), body, other)
+            }),
+        ),
+        (
+            "63 matches nested as examinees",
+            nested(
+                |m| m.slot(0),
+                most,
+                ENUM,
+                |m, inner| {
+                    let (body, other) = (m.slot(0), m.slot(0));
+                    matched(m, inner, None, body, other)
+                },
+            ),
+        ),
+        (
+            "63 sums nested to the left",
+            nested(bare, most, I64, |m, inner| {
+                let right = m.literal(BARE);
+                m.operator(op::ADD, inner, right)
+            }),
+        ),
+        (
+            "63 sums nested to the right",
+            nested(bare, most, I64, |m, inner| {
+                let left = m.literal(BARE);
+                m.operator(op::ADD, left, inner)
+            }),
+        ),
+        (
+            "63 comparisons nested to the right",
+            nested(yes, most, BOOL_ROW, |m, inner| {
+                let left = m.literal(BOOL);
+                m.operator(op::EQ, left, inner)
+            }),
+        ),
+        (
+            "63 conjunctions nested to the left",
+            nested(yes, most, BOOL_ROW, |m, inner| {
+                let right = m.literal(BOOL);
+                m.operator(op::AND, inner, right)
+            }),
+        ),
+        ("63 fields nested", nested(|m| m.slot(1), most, RECORD, |m, inner| m.field(inner, 0))),
+        ("63 returns nested", nested(unit, most, UNIT, |m, inner| m.returns(Some(inner)))),
+        ("31 lets nested", lets()),
+        ("60 levels of every kind", mixed()),
+    ]
+}
+
+/// Lets whose values are blocks with lets.
+fn lets() -> Maker {
+    let mut maker = begun();
+    let mut node = maker.literal(7);
+    for slot in 0..DEPTH / 2 - 1 {
+        let bound = maker.let_statement(2 + slot, node, None);
+        let last = maker.slot(2 + slot);
+        node = maker.block(&[bound], Some(last));
+    }
+    maker.root(node, UNIT, &PARAMETERS);
+    maker
+}
+
+/// A record in a match in a block in a return in a field and so on.
+fn mixed() -> Maker {
+    let mut maker = begun();
+    let mut node = maker.slot(1);
+    for _ in 0..DEPTH / 5 {
+        node = maker.record(1, &[(0, node)]);
+        let (examinee, other) = (maker.slot(0), maker.slot(1));
+        node = matched(&mut maker, examinee, None, node, other);
+        let statement = maker.literal(7);
+        node = maker.block(&[statement], Some(node));
+        node = maker.field(node, 0);
+        node = maker.returns(Some(node));
+    }
+    maker.root(node, RECORD, &PARAMETERS);
+    maker
+}
+
+/// The longest lists of each kind, and the longest chains of variables.
+fn lists() -> Vec<(&'static str, Maker)> {
+    let block: fn(&mut Maker, usize) -> usize = |m, inner| m.block(&[], Some(inner));
+    let record: fn(&mut Maker, usize) -> usize = |m, inner| m.record(1, &[(0, inner)]);
+    let arm: fn(&mut Maker, usize) -> usize = |m, inner| {
+        let (examinee, other) = (m.slot(0), m.slot(1));
+        matched(m, examinee, None, inner, other)
+    };
+    vec![
+        ("2,048 statements", {
+            let mut maker = begun();
+            let statements: Vec<usize> = (0..2048).map(|_| maker.literal(7)).collect();
+            let block = maker.block(&statements, None);
+            maker.root(block, UNIT, &[]);
+            maker
+        }),
+        ("256 lets", {
+            let mut maker = begun();
+            let mut statements = Vec::new();
+            for slot in 0..256 {
+                let value = if slot == 0 { maker.literal(BARE) } else { maker.slot(slot - 1) };
+                statements.push(maker.let_statement(slot, value, None));
+            }
+            let block = maker.block(&statements, None);
+            maker.root(block, UNIT, &[]);
+            maker
+        }),
+        ("a record of 2,040 fields", wide_record(2040, 2040)),
+        ("a record of 2,040 fields, one missing", wide_record(2040, 2039)),
+        ("1,360 arms on 1,360 variants", wide_match(1360, 1360)),
+        ("1,020 times the last of 3,570 fields", many_accesses(3570, 1020)),
+        ("62 times the last of 4,050 fields, nested", nested_accesses(4050, 62, 32)),
+        ("a tree of 4,095 conjunctions", conjunction(2048)),
+        ("2,048 variables", many_variables(2048, 7)),
+        ("2,049 variables", many_variables(2049, 7)),
+        ("a chain of 2,030 variables", over_a_chain(2030, 0, block)),
+        ("60 blocks over a chain of 2,000 variables", over_a_chain(2000, 60, block)),
+        ("60 records over a chain of 1,980 variables", over_a_chain(1980, 60, record)),
+        ("60 matches over a chain of 1,880 variables", over_a_chain(1880, 60, arm)),
+    ]
+}
+
+/// Definitions and record types that lead to each other in a chain, `between` record types from one to the next. The last
+/// leads on to definition `end`, if there is one.
+fn definitions(count: usize, between: usize, down: bool, end: Option<usize>) -> Maker {
+    let mut maker = Maker::new();
+    let none = maker.singles(&[]);
+    let unit = maker.type_row(1, 0, 0);
+    let next = |d: usize| if down { d.checked_sub(1) } else { (d + 1 < count).then_some(d + 1) };
+    let mut fields = Vec::new();
+    for d in 0..count {
+        let mut row = match next(d).or(end) {
+            Some(to) => maker.type_row(4, to, none),
+            None => unit,
+        };
+        for _ in 0..between {
+            let list = maker.pairs(&[(0, row)]);
+            row = maker.type_row(5, 0, list);
+        }
+        fields.push(maker.pairs(&[(0, row)]));
+    }
+    for list in fields {
+        maker.definition(1, 0, list);
+    }
+    maker
+}
+
+/// Type rows that each hold the one before, with a definition and a root of the last.
+fn rows(kind: usize) -> Maker {
+    let mut maker = Maker::new();
+    let mut row = maker.type_row(1, 0, 0);
+    while maker.types.len() < TYPES {
+        let list = if kind == 5 { maker.pairs(&[(0, row)]) } else { maker.singles(&[row]) };
+        row = maker.type_row(kind, 0, list);
+    }
+    let list = maker.pairs(&[(0, row)]);
+    maker.definition(1, 0, list);
+    let body = maker.slot(0);
+    maker.root(body, row, &[(0, row)]);
+    maker
+}
+
+/// Chains of types and definitions.
+fn types() -> Vec<(&'static str, Maker)> {
+    vec![
+        ("512 definitions in a chain up", definitions(DEFINITIONS, 0, false, None)),
+        ("512 definitions in a chain down", definitions(DEFINITIONS, 0, true, None)),
+        ("512 definitions in a cycle", definitions(DEFINITIONS, 0, false, Some(0))),
+        ("512 definitions with 1,024 record types between", definitions(DEFINITIONS, 2, false, None)),
+        ("the same down", definitions(DEFINITIONS, 2, true, None)),
+        ("2,047 record types nested", rows(5)),
+        ("2,047 function types nested", rows(6)),
+    ]
+}
+
+/// Values of a kind in a chain, up or down or round; the last is of the other kind.
+fn values(kind: usize, last: usize, to: fn(usize) -> Option<usize>) -> Maker {
+    let mut maker = Maker::new();
+    for v in 0..VALUES {
+        let references: Vec<usize> = to(v).into_iter().collect();
+        maker.value(if v + 1 == VALUES { last } else { kind }, &references);
+    }
+    maker
+}
+
+/// Chains of values.
+fn chains() -> Vec<(&'static str, Maker)> {
+    let up: fn(usize) -> Option<usize> = |v| (v + 1 < VALUES).then_some(v + 1);
+    vec![
+        ("1,024 functions in a chain up", values(1, 1, up)),
+        ("1,024 functions in a chain down", values(1, 1, |v| v.checked_sub(1))),
+        ("1,024 functions in a cycle", values(1, 1, |v| Some((v + 1) % VALUES))),
+        ("1,023 constants that lead to a context value", values(0, 2, up)),
+        ("1,023 functions and a constant in a cycle", values(1, 0, |v| Some((v + 1) % VALUES))),
+    ]
+}
+
+/// All of them, and a full pack.
+pub fn packs() -> Vec<(&'static str, Vec<u8>)> {
+    let groups = [expressions(), lists(), types(), chains()];
+    let mut all: Vec<_> = groups.into_iter().flatten().map(|(name, maker)| (name, maker.bytes())).collect();
+    all.push(("a full pack of 65,536 bytes", crate::full::full()));
+    all
+}
+
+#[cfg(test)]
+mod tests {
+    /// None is refused for how it is made: else it would not come to what needs the stack.
+    #[test]
+    fn well_formed() {
+        for (name, pack) in super::packs() {
+            let made = crate::Pack::read(&pack).and_then(|pack| crate::formed::formed(&pack));
+            assert_eq!(made, Ok(()), "{name}");
+        }
+    }
+
+    /// Roots are accepted, but for the two that are made to be refused.
+    #[test]
+    fn answers() {
+        let refused = |name: &str| match name {
+            "a record of 2,040 fields, one missing" => Some(31),
+            "2,049 variables" => Some(37),
+            _ => None,
+        };
+        let groups = [super::expressions(), super::lists()];
+        for (name, maker) in groups.into_iter().flatten() {
+            let pack = maker.bytes();
+            let came = std::thread::Builder::new()
+                .stack_size(1 << 28)
+                .spawn(move || crate::check_root(&pack, 0, usize::MAX).err().map(|r| r.number))
+                .expect("a thread")
+                .join()
+                .expect("an answer");
+            assert_eq!(came, refused(name), "{name}");
+        }
+    }
+}

@@ -1,0 +1,54 @@
+//! The deepest packs, each entry in a thread that has no more stack than `STACK` says. A call that needs more ends the
+//! process; an answer that differs from the reference's fails.
+
+use model::Refusal;
+use rulepack::STACK;
+use std::sync::Arc;
+use std::thread;
+
+/// Room for the reference, which is not frugal.
+const AMPLE: usize = 1 << 28;
+
+fn in_a_thread<T: Send + 'static>(stack: usize, run: impl FnOnce() -> T + Send + 'static) -> T {
+    thread::Builder::new().stack_size(stack).spawn(run).expect("a thread").join().expect("an answer")
+}
+
+fn told<T>(answer: Result<T, rulepack::Refusal>) -> Result<(), Refusal> {
+    answer.map(|_| ()).map_err(|r| Refusal { number: r.number, place: r.place, detail: r.detail })
+}
+
+/// Asks the three entries, each in a thread of that stack, and the reference.
+fn asked(name: &'static str, pack: Vec<u8>) {
+    let pack = Arc::new(pack);
+    let mut area = vec![0; 4 * 4096];
+    let ask: [(&str, fn(&[u8], &mut [u8]) -> Result<(), Refusal>, fn(&[u8]) -> Result<(), Refusal>); 3] = [
+        ("types", |pack, _| told(rulepack::check_types(pack)), model::check_types),
+        (
+            "root",
+            |pack, area| told(rulepack::check_root(pack, 0, area)),
+            |pack| model::check_root(pack, 0, usize::MAX).map(|_| ()),
+        ),
+        ("order", |pack, area| told(rulepack::order(pack, area)), |pack| model::order(pack, usize::MAX).map(|_| ())),
+    ];
+    for (entry, ours, reference) in ask {
+        let (of, mut lent) = (pack.clone(), std::mem::take(&mut area));
+        let (came, back) = in_a_thread(STACK, move || (ours(&of, &mut lent), lent));
+        area = back;
+        let of = pack.clone();
+        let wanted = in_a_thread(AMPLE, move || reference(&of));
+        assert_eq!(came, wanted, "{entry} of {name}");
+    }
+}
+
+#[test]
+fn the_deepest_packs() {
+    for (name, pack) in model::deepest::packs() {
+        asked(name, pack);
+    }
+}
+
+/// A pack of less than 2,000 bytes, for which a root once took 3.6 MiB.
+#[test]
+fn records_nested_61_deep() {
+    asked("61 records nested", model::deepest::nested_records(61).bytes());
+}
