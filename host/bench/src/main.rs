@@ -18,6 +18,7 @@ use std::collections::{BTreeMap, BTreeSet};
 use std::hint::black_box;
 use std::time::Instant;
 
+#[link(name = "cells_abi", kind = "static")]
 unsafe extern "C" {
     fn cells_replay(script: *const u32, length: usize, operations: u32, answers: *mut u32, room: usize);
 }

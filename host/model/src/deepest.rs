@@ -258,7 +258,7 @@ fn lists() -> Vec<(&'static str, Maker)> {
 
 /// Definitions and record types that lead to each other in a chain, `between` record types from one to the next. The last
 /// leads on to definition `end`, if there is one.
-fn definitions(count: usize, between: usize, down: bool, end: Option<usize>) -> Maker {
+pub fn definitions(count: usize, between: usize, down: bool, end: Option<usize>) -> Maker {
     let mut maker = Maker::new();
     let none = maker.singles(&[]);
     let unit = maker.type_row(1, 0, 0);

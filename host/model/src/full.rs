@@ -5,8 +5,8 @@ use crate::random::Random;
 
 const VALUES: usize = 1024;
 
-/// A pack of 65,536 bytes with every count at its limit that all entries accept.
-pub fn full() -> Vec<u8> {
+/// The rows of a pack of 65,536 bytes with every count at its limit that all entries accept.
+pub fn maker() -> Maker {
     let mut maker = Maker::new();
     let none = maker.singles(&[]);
     // Types: primitives, definitions, and records of two fields over the rows before.
@@ -68,7 +68,12 @@ pub fn full() -> Vec<u8> {
     }
     assert!(maker.words.len() <= 8184, "{} words", maker.words.len());
     maker.words.resize(8184, 0);
-    let bytes = maker.bytes();
+    maker
+}
+
+/// Its bytes.
+pub fn full() -> Vec<u8> {
+    let bytes = maker().bytes();
     assert_eq!(bytes.len(), 65536);
     bytes
 }

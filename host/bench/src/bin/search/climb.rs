@@ -1,0 +1,150 @@
+//! The search: each family's parameters are changed at random, and a change that makes the pack dearer is kept.
+
+use crate::count::{Counted, counted};
+use crate::families::{self, Ask, Family};
+use crate::quick::{Quick, Timer};
+use model::random::Random;
+use std::collections::HashSet;
+
+/// How many changes of each family a minute stands for. All families together then take about that long.
+const CHANGES: usize = 40;
+
+/// By how much a change has to be dearer to be kept: less is noise.
+const DEARER: f64 = 1.005;
+
+/// After how many changes in vain the search goes on from elsewhere.
+const IN_VAIN: usize = 25;
+
+/// One parameter at random: a little more or less, twice or half, the least, the most, or any.
+fn changed(random: &mut Random, family: &Family, from: &[usize]) -> Vec<usize> {
+    let mut parameters = from.to_vec();
+    for _ in 0..1 + random.below(3) {
+        let which = random.below(parameters.len());
+        let (_, least, most, _) = family.parameters[which];
+        let value = parameters[which];
+        let tenth = 1 + random.below(1 + value / 10);
+        let new = match random.below(10) {
+            0 => value + 1,
+            1 => value.saturating_sub(1),
+            2 => 2 * value,
+            3 => value / 2,
+            4 => least,
+            5 => most,
+            6 => least + random.below(most - least + 1),
+            7 | 8 => value + tenth,
+            _ => value.saturating_sub(tenth),
+        };
+        parameters[which] = new.clamp(least, most);
+    }
+    parameters
+}
+
+/// What was found of a family.
+struct Found {
+    parameters: Vec<usize>,
+    bytes: usize,
+    /// To order by: microseconds, and more than any where the pack was given up or ended the process.
+    weight: f64,
+}
+
+/// Measures one pack, or none where it does not fit or is not well-formed.
+fn tried(timer: &mut Timer, family: &Family, ask: Ask, parameters: &[usize]) -> Option<Found> {
+    let pack = family.pack(parameters)?;
+    let weight = match timer.time(ask, &pack) {
+        Quick::Took(took) => took,
+        Quick::Malformed(took) if family.read_only => took,
+        Quick::Malformed(_) => return None,
+        Quick::GivenUp | Quick::Crashed => f64::INFINITY,
+    };
+    Some(Found { parameters: parameters.to_vec(), bytes: pack.len(), weight })
+}
+
+/// The dearest pack found of a family for one question.
+fn climbed(timer: &mut Timer, family: &Family, ask: Ask, seed: u64, changes: usize) -> Found {
+    let mut random = Random::new(seed);
+    let first = tried(timer, family, ask, &family.start()).expect("the pack that a family begins with");
+    let (mut best, mut at) = (first, family.start());
+    let mut at_weight = best.weight;
+    let mut seen = HashSet::from([family.start()]);
+    let mut vain = 0;
+    for _ in 0..if family.parameters.is_empty() { 0 } else { changes } {
+        // What is worse than any cannot be made worse.
+        if best.weight.is_infinite() {
+            break;
+        }
+        let parameters = changed(&mut random, family, &at);
+        if !seen.insert(parameters.clone()) {
+            continue;
+        }
+        let Some(found) = tried(timer, family, ask, &parameters) else { continue };
+        vain += 1;
+        if found.weight > at_weight * DEARER {
+            (at, at_weight, vain) = (parameters, found.weight, 0);
+        }
+        if found.weight > best.weight * DEARER {
+            best = found;
+        } else if vain > IN_VAIN {
+            (at, at_weight, vain) = (best.parameters.clone(), best.weight, 0);
+        }
+    }
+    best
+}
+
+/// The exact counts of what was found.
+struct Row {
+    family: &'static str,
+    told: String,
+    bytes: usize,
+    counts: Vec<(Ask, Counted)>,
+}
+
+fn row(family: &Family, ask: Ask, found: &Found) -> Row {
+    let pack = family.pack(&found.parameters).expect("a pack that fitted before");
+    let mut asks = Ask::ENTRIES.to_vec();
+    if ask == Ask::Program {
+        asks.push(Ask::Program);
+    }
+    let counts = asks.into_iter().map(|ask| (ask, counted(ask, &pack))).collect();
+    Row { family: family.name, told: family.told(&found.parameters), bytes: found.bytes, counts }
+}
+
+fn cell(row: &Row, ask: Ask) -> String {
+    row.counts.iter().find(|(of, _)| *of == ask).map_or(String::new(), |(_, counted)| counted.to_string())
+}
+
+fn print(row: &Row) {
+    let cells: Vec<String> =
+        [Ask::Types, Ask::Root, Ask::Order, Ask::Program].iter().map(|ask| cell(row, *ask)).collect();
+    println!("| {} | {} | {} | {} |", row.family, row.told, row.bytes, cells.join(" | "));
+}
+
+/// For each question the dearest of all packs that were counted.
+fn print_worst(rows: &[Row]) {
+    println!();
+    println!("| asked | the dearest found | parameters | millions |");
+    println!("|---|---|---|---|");
+    for ask in [Ask::Types, Ask::Root, Ask::Order, Ask::Program] {
+        let counts = |row: &Row| row.counts.iter().find(|(of, _)| *of == ask).map(|(_, counted)| counted.clone());
+        let weight = |row: &&Row| counts(row).map_or(-1.0, |counted| counted.weight());
+        if let Some(worst) = rows.iter().max_by(|a, b| weight(a).total_cmp(&weight(b))) {
+            println!("| {} | {} | {} | {} |", ask.name(), worst.family, worst.told, cell(worst, ask));
+        }
+    }
+}
+
+/// Searches every family for what it is meant to make dear, and prints what was found.
+pub fn search(seed: u64, minutes: usize) {
+    let mut timer = Timer::new();
+    let mut rows = Vec::new();
+    println!("| family | parameters | bytes | types | root | order | program |");
+    println!("|---|---|---|---|---|---|---|");
+    for (number, family) in families::all().iter().enumerate() {
+        for ask in family.aims {
+            let found = climbed(&mut timer, family, *ask, seed * 1000 + number as u64, CHANGES * minutes);
+            let row = row(family, *ask, &found);
+            print(&row);
+            rows.push(row);
+        }
+    }
+    print_worst(&rows);
+}
