@@ -14,33 +14,54 @@ const VALUES: usize = 1024;
 const BARE: usize = 5;
 const BOOL: usize = 4;
 
-/// The rows that the makers below begin with.
+/// The rows that the makers below begin with. The rows of the records follow.
 const UNIT: usize = 0;
 const BOOL_ROW: usize = 1;
 const I64: usize = 2;
 const ENUM: usize = 3;
-const RECORD: usize = 4;
+const RECORDS: usize = 4;
 
-/// Unit, bool, i64, an enum of two variants (the first without fields, the second with a unit), and a record whose field 0
-/// is of its own type.
+/// The rows, with records that have one field.
 fn begun() -> Maker {
+    begun_with(0)
+}
+
+/// Unit, bool, i64, an enum of two variants (the first without fields, the second with a unit), and 64 records: record 0 has
+/// no field, each other so many units and then the record before.
+fn begun_with(units: usize) -> Maker {
     let mut maker = Maker::new();
     let none = maker.singles(&[]);
     maker.type_row(1, 0, 0);
     maker.primitive(4);
     maker.primitive(11);
     maker.type_row(4, 0, none);
-    maker.type_row(4, 1, none);
     let payload = maker.singles(&[UNIT]);
     let variants = maker.pairs(&[(0, none), (1, payload)]);
     maker.definition(0, 0, variants);
-    let fields = maker.pairs(&[(0, RECORD)]);
-    maker.definition(1, 0, fields);
+    for record in 0..DEPTH {
+        maker.type_row(4, 1 + record, none);
+        let mut fields: Vec<(usize, usize)> = (0..units).map(|name| (name, UNIT)).collect();
+        if record > 0 {
+            fields.push((units, record_row(record - 1)));
+        }
+        let list = if record > 0 { maker.pairs(&fields) } else { none };
+        maker.definition(1, 0, list);
+    }
     maker
 }
 
-/// The parameters of a root over these rows: slot 0 is of the enum, slot 1 of the record.
-const PARAMETERS: [(usize, usize); 2] = [(0, ENUM), (1, RECORD)];
+/// The type row of a record.
+const fn record_row(record: usize) -> usize {
+    RECORDS + record
+}
+
+/// An expression of a record: its field 0 is that of the record before.
+fn record_of(maker: &mut Maker, record: usize, inner: usize) -> usize {
+    maker.record(1 + record, &[(0, inner)])
+}
+
+/// The parameters of a root over these rows: slot 0 is of the enum, slot 1 of the first record, slot 2 of the last.
+const PARAMETERS: [(usize, usize); 3] = [(0, ENUM), (1, record_row(0)), (2, record_row(DEPTH - 1))];
 
 /// A node wrapped so often, each time by one level, and a root of it.
 fn nested(first: fn(&mut Maker) -> usize, times: usize, returns: usize, wrap: fn(&mut Maker, usize) -> usize) -> Maker {
@@ -53,9 +74,22 @@ fn nested(first: fn(&mut Maker) -> usize, times: usize, returns: usize, wrap: fn
     maker
 }
 
-/// So many record expressions, each the field of the next.
+/// So many record expressions, each the field of the next; the innermost has no field.
 pub fn nested_records(records: usize) -> Maker {
-    nested(|m| m.slot(1), records, RECORD, |m, inner| m.record(1, &[(0, inner)]))
+    wide_records(records, 0)
+}
+
+/// The same with so many units before the field that is a record.
+fn wide_records(records: usize, units: usize) -> Maker {
+    let mut maker = begun_with(units);
+    let mut node = maker.record(1, &[]);
+    for record in 1..records {
+        let mut fields: Vec<(usize, usize)> = (0..units).map(|name| (name, maker.literal(7))).collect();
+        fields.push((units, node));
+        node = maker.record(1 + record, &fields);
+    }
+    maker.root(node, record_row(records - 1), &PARAMETERS);
+    maker
 }
 
 /// A match on the enum whose first arm has this guard and this body.
@@ -63,11 +97,14 @@ fn matched(maker: &mut Maker, examinee: usize, guard: Option<usize>, body: usize
     maker.match_expr(examinee, &[(Pattern::Variant(0, None), guard, body), (Pattern::Underscore, None, other)])
 }
 
-/// A match with so many arms, each of a bare number: a chain of as many variables. The first arm's body is slot 2, so that
+/// The slot of the chains below.
+const CHAINED: usize = 3;
+
+/// A match with so many arms, each of a bare number: a chain of as many variables. The first arm's body is a slot, so that
 /// what was bound to it stands at the chain's end.
 fn arms_of_numbers(maker: &mut Maker, arms: usize) -> usize {
     let examinee = maker.slot(0);
-    let mut all = vec![(Pattern::Variant(0, None), None, maker.slot(2))];
+    let mut all = vec![(Pattern::Variant(0, None), None, maker.slot(CHAINED))];
     for _ in 0..arms {
         all.push((Pattern::Variant(0, None), None, maker.literal(BARE)));
     }
@@ -75,20 +112,20 @@ fn arms_of_numbers(maker: &mut Maker, arms: usize) -> usize {
     maker.match_expr(examinee, &all)
 }
 
-/// `{ let s = 1; match .. { a chain of variables }; NODE }` where the node has a statement that uses s, so many levels
-/// down. The node is of the record type.
-fn over_a_chain(arms: usize, levels: usize, wrap: fn(&mut Maker, usize) -> usize) -> Maker {
+/// `{ let s = 1; match .. { a chain of variables }; NODE }` where the node is of a record, and has a statement so many levels
+/// down that uses s. A level raises the record by so much.
+fn over_a_chain(arms: usize, levels: usize, raise: usize, wrap: fn(&mut Maker, usize, usize) -> usize) -> Maker {
     let mut maker = begun();
     let one = maker.literal(BARE);
-    let bound = maker.let_statement(2, one, None);
+    let bound = maker.let_statement(CHAINED, one, None);
     let chain = arms_of_numbers(&mut maker, arms);
-    let (used, last) = (maker.slot(2), maker.slot(1));
+    let (used, last) = (maker.slot(CHAINED), maker.slot(1));
     let mut node = maker.block(&[used], Some(last));
-    for _ in 0..levels {
-        node = wrap(&mut maker, node);
+    for level in 1..=levels {
+        node = wrap(&mut maker, level, node);
     }
     let block = maker.block(&[bound, chain], Some(node));
-    maker.root(block, RECORD, &PARAMETERS);
+    maker.root(block, record_row(raise * levels), &PARAMETERS);
     maker
 }
 
@@ -113,9 +150,27 @@ fn expressions() -> Vec<(&'static str, Maker)> {
     let bare: fn(&mut Maker) -> usize = |m| m.literal(BARE);
     let most = DEPTH - 1;
     vec![
-        ("63 records nested", nested_records(most)),
+        ("64 records nested", nested_records(DEPTH)),
+        ("64 records of 29 fields nested as the last", wide_records(DEPTH, 28)),
         ("63 blocks nested as last expressions", deep(DEPTH)),
         ("63 blocks nested as statements", nested(unit, most, UNIT, |m, inner| m.block(&[inner], None))),
+        (
+            "60 blocks of 30 statements nested as the last",
+            nested(unit, 60, UNIT, |m, inner| {
+                let mut statements: Vec<usize> = (0..29).map(|_| m.literal(7)).collect();
+                statements.push(inner);
+                m.block(&statements, None)
+            }),
+        ),
+        (
+            "60 matches of 26 arms nested as the last",
+            nested(unit, 60, UNIT, |m, inner| {
+                let examinee = m.slot(0);
+                let mut arms: Vec<_> = (0..25).map(|_| (Pattern::Variant(0, None), None, m.literal(7))).collect();
+                arms.push((Pattern::Underscore, None, inner));
+                m.match_expr(examinee, &arms)
+            }),
+        ),
         (
             "63 matches nested as bodies",
             nested(unit, most, UNIT, |m, inner| {
@@ -177,7 +232,7 @@ fn expressions() -> Vec<(&'static str, Maker)> {
                 m.operator(op::AND, inner, right)
             }),
         ),
-        ("63 fields nested", nested(|m| m.slot(1), most, RECORD, |m, inner| m.field(inner, 0))),
+        ("63 fields nested", nested(|m| m.slot(2), most, record_row(0), |m, inner| m.field(inner, 0))),
         ("63 returns nested", nested(unit, most, UNIT, |m, inner| m.returns(Some(inner)))),
         ("31 lets nested", lets()),
         ("60 levels of every kind", mixed()),
@@ -188,37 +243,37 @@ fn expressions() -> Vec<(&'static str, Maker)> {
 fn lets() -> Maker {
     let mut maker = begun();
     let mut node = maker.literal(7);
-    for slot in 0..DEPTH / 2 - 1 {
-        let bound = maker.let_statement(2 + slot, node, None);
-        let last = maker.slot(2 + slot);
+    for slot in CHAINED..CHAINED + DEPTH / 2 - 1 {
+        let bound = maker.let_statement(slot, node, None);
+        let last = maker.slot(slot);
         node = maker.block(&[bound], Some(last));
     }
     maker.root(node, UNIT, &PARAMETERS);
     maker
 }
 
-/// A record in a match in a block in a return in a field and so on.
+/// A record in a match in a block in a field and so on, with a return at the bottom.
 fn mixed() -> Maker {
     let mut maker = begun();
-    let mut node = maker.slot(1);
-    for _ in 0..DEPTH / 5 {
-        node = maker.record(1, &[(0, node)]);
-        let (examinee, other) = (maker.slot(0), maker.slot(1));
+    let returned = maker.slot(1);
+    let mut node = maker.returns(Some(returned));
+    for _ in 0..DEPTH / 4 - 1 {
+        node = record_of(&mut maker, 1, node);
+        let (examinee, inner) = (maker.slot(0), maker.slot(1));
+        let other = record_of(&mut maker, 1, inner);
         node = matched(&mut maker, examinee, None, node, other);
         let statement = maker.literal(7);
         node = maker.block(&[statement], Some(node));
         node = maker.field(node, 0);
-        node = maker.returns(Some(node));
     }
-    maker.root(node, RECORD, &PARAMETERS);
+    maker.root(node, record_row(0), &PARAMETERS);
     maker
 }
 
 /// The longest lists of each kind, and the longest chains of variables.
 fn lists() -> Vec<(&'static str, Maker)> {
-    let block: fn(&mut Maker, usize) -> usize = |m, inner| m.block(&[], Some(inner));
-    let record: fn(&mut Maker, usize) -> usize = |m, inner| m.record(1, &[(0, inner)]);
-    let arm: fn(&mut Maker, usize) -> usize = |m, inner| {
+    let block: fn(&mut Maker, usize, usize) -> usize = |m, _, inner| m.block(&[], Some(inner));
+    let arm: fn(&mut Maker, usize, usize) -> usize = |m, _, inner| {
         let (examinee, other) = (m.slot(0), m.slot(1));
         matched(m, examinee, None, inner, other)
     };
@@ -249,10 +304,10 @@ fn lists() -> Vec<(&'static str, Maker)> {
         ("a tree of 4,095 conjunctions", conjunction(2048)),
         ("2,048 variables", many_variables(2048, 7)),
         ("2,049 variables", many_variables(2049, 7)),
-        ("a chain of 2,030 variables", over_a_chain(2030, 0, block)),
-        ("60 blocks over a chain of 2,000 variables", over_a_chain(2000, 60, block)),
-        ("60 records over a chain of 1,980 variables", over_a_chain(1980, 60, record)),
-        ("60 matches over a chain of 1,880 variables", over_a_chain(1880, 60, arm)),
+        ("a chain of 1,960 variables", over_a_chain(1960, 0, 0, block)),
+        ("60 blocks over a chain of 1,940 variables", over_a_chain(1940, 60, 0, block)),
+        ("60 records over a chain of 1,920 variables", over_a_chain(1920, 60, 1, record_of)),
+        ("60 matches over a chain of 1,820 variables", over_a_chain(1820, 60, 0, arm)),
     ]
 }
 
@@ -350,23 +405,21 @@ mod tests {
         }
     }
 
-    /// Roots are accepted, but for the two that are made to be refused.
+    /// Types and roots are accepted, but for those that are made to be refused, so that the program comes to the roots too.
     #[test]
     fn answers() {
         let refused = |name: &str| match name {
             "a record of 2,040 fields, one missing" => Some(31),
             "2,049 variables" => Some(37),
+            "62 times the last of 4,050 fields, nested" => Some(41),
             _ => None,
         };
         let groups = [super::expressions(), super::lists()];
         for (name, maker) in groups.into_iter().flatten() {
             let pack = maker.bytes();
-            let came = std::thread::Builder::new()
-                .stack_size(1 << 28)
-                .spawn(move || crate::check_root(&pack, 0, usize::MAX).err().map(|r| r.number))
-                .expect("a thread")
-                .join()
-                .expect("an answer");
+            let asked = move || crate::check_types(&pack).and(crate::check_root(&pack, 0, usize::MAX));
+            let thread = std::thread::Builder::new().stack_size(1 << 28).spawn(asked).expect("a thread");
+            let came = thread.join().expect("an answer").err().map(|r| r.number);
             assert_eq!(came, refused(name), "{name}");
         }
     }
