@@ -17,10 +17,11 @@ const IN_VAIN: usize = 25;
 
 /// One parameter at random: a little more or less, twice or half, the least, the most, or any.
 fn changed(random: &mut Random, family: &Family, from: &[usize]) -> Vec<usize> {
+    let all = family.all_parameters();
     let mut parameters = from.to_vec();
     for _ in 0..1 + random.below(3) {
         let which = random.below(parameters.len());
-        let (_, least, most, _) = family.parameters[which];
+        let (_, least, most, _) = all[which];
         let value = parameters[which];
         let tenth = 1 + random.below(1 + value / 10);
         let new = match random.below(10) {
@@ -67,7 +68,7 @@ fn climbed(timer: &mut Timer, family: &Family, ask: Ask, seed: u64, changes: usi
     let mut at_weight = best.weight;
     let mut seen = HashSet::from([family.start()]);
     let mut vain = 0;
-    for _ in 0..if family.parameters.is_empty() { 0 } else { changes } {
+    for _ in 0..changes {
         // What is worse than any cannot be made worse.
         if best.weight.is_infinite() {
             break;

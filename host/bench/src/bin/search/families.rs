@@ -46,14 +46,23 @@ pub struct Family {
 }
 
 impl Family {
+    /// The parameters, and last whether the pack is padded.
+    pub fn all_parameters(&self) -> Vec<Parameter> {
+        self.parameters.iter().chain(&[PADDED]).copied().collect()
+    }
+
     /// Where the search begins.
     pub fn start(&self) -> Vec<usize> {
-        self.parameters.iter().map(|(_, _, _, start)| *start).collect()
+        self.all_parameters().iter().map(|(_, _, _, start)| *start).collect()
     }
 
     /// The pack, or none where it does not fit.
     pub fn pack(&self, parameters: &[usize]) -> Option<Vec<u8>> {
-        let maker = (self.make)(parameters);
+        let (padded, own) = parameters.split_last().expect("at least whether it is padded");
+        let mut maker = (self.make)(own);
+        if *padded == 1 {
+            pad(&mut maker);
+        }
         let counts = [
             maker.types.len(),
             maker.definitions.len(),
@@ -68,9 +77,47 @@ impl Family {
 
     /// The parameters by name.
     pub fn told(&self, parameters: &[usize]) -> String {
-        let told: Vec<String> =
+        let mut told: Vec<String> =
             self.parameters.iter().zip(parameters).map(|((name, ..), value)| format!("{name} {value}")).collect();
+        if parameters.last() == Some(&1) {
+            told.push("padded".to_string());
+        }
         told.join(", ")
+    }
+}
+
+/// Whether the tables of a pack are filled up to their limits with rows that are good for nothing.
+const PADDED: Parameter = ("padded", 0, 1, 0);
+
+/// Fills the tables up. What is there keeps its number.
+fn pad(maker: &mut Maker) {
+    let [types, definitions, expressions, _, values, words] = Counts::LIMITS;
+    let none = maker.singles(&[]);
+    let boolean = maker.primitive(4);
+    while maker.types.len() < types {
+        maker.type_row(1, 0, 0);
+    }
+    while maker.definitions.len() < definitions {
+        maker.definition(2, 0, 0);
+    }
+    // A tree of And: with so many leaves it has one node less than twice as many.
+    let leaves = (expressions.saturating_sub(maker.expressions.len()) + 1) / 2;
+    let mut level: Vec<usize> = (0..leaves).map(|_| maker.literal(4)).collect();
+    while level.len() > 1 {
+        let pairs: Vec<Vec<usize>> = level.chunks(2).map(<[usize]>::to_vec).collect();
+        level = pairs
+            .iter()
+            .map(|two| if let [left, right] = two[..] { maker.operator(0, left, right) } else { two[0] })
+            .collect();
+    }
+    if let Some(body) = level.first() {
+        maker.roots.push((*body as u64) << 50 | (boolean as u64) << 36 | (none as u64) << 22);
+    }
+    while maker.values.len() < values {
+        maker.values.push(1 << 30 | none as u32);
+    }
+    if maker.words.len() < words {
+        maker.words.resize(words, 0);
     }
 }
 

@@ -39,7 +39,7 @@ fn pack_of(family: &Family, words: &[&str]) -> Vec<u8> {
 fn listed() {
     for family in families::all() {
         let parameters: Vec<String> = family
-            .parameters
+            .all_parameters()
             .iter()
             .map(|(name, least, most, start)| format!("{name} {start} ({least} to {most})"))
             .collect();

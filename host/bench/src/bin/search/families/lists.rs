@@ -1,5 +1,6 @@
 //! Type rows and their lists: what numbering rows by structure costs.
 
+use super::members::{empty_records_in, looked_up_in, matches_in};
 use super::{Ask, Family, family, numbers, plain, use_row};
 use model::make::Maker;
 use std::collections::HashMap;
@@ -80,6 +81,42 @@ pub fn families() -> Vec<Family> {
             shared,
         ),
         family("rows of one bucket", AIMS, &[("lists", 1, 2040, 1200), ("bucket", 0, 4092, 17)], bucket),
+        family(
+            "functions over windows of marks, and fields looked up",
+            AIMS,
+            &[
+                ("functions", 1, 2040, 990),
+                ("length", 1, 2040, 990),
+                ("fields", 1, 4000, 3050),
+                ("deep", 1, 62, 62),
+                ("times", 1, 2000, 32),
+            ],
+            |p| looked_up_in(marked_rows([p[0], p[1], p[1], 4000, 0, 1]), [p[2], p[3], p[4], 0, 0, 0, 0]),
+        ),
+        family(
+            "functions over windows of marks, and empty records",
+            AIMS,
+            &[
+                ("functions", 1, 2040, 990),
+                ("length", 1, 2040, 990),
+                ("outer", 0, 2000, 14),
+                ("inner", 0, 4000, 190),
+                ("alone", 0, 2000, 400),
+            ],
+            |p| empty_records_in(marked_rows([p[0], p[1], p[1], 4000, 0, 1]), [p[2], p[3], p[4]]),
+        ),
+        family(
+            "functions over lists that overlap, and matches",
+            AIMS,
+            &[
+                ("functions", 1, 2040, 990),
+                ("length", 1, 2040, 990),
+                ("variants", 1, 4000, 1200),
+                ("matches", 1, 1300, 620),
+                ("arms", 0, 2000, 0),
+            ],
+            |p| matches_in(overlapping_rows([p[0], p[1], 1, 1, 1]), [p[2], p[3], p[4], 0, 0, 1]),
+        ),
         family("records that each hold the row before", AIMS, &[("rows", 1, 2040, 1630), ("times", 1, 30, 2)], doubled),
     ]
 }
@@ -93,14 +130,18 @@ fn leading(maker: &mut Maker, rows: usize, classes: usize) {
 
 /// Every word is a type and a count that fits; each list starts `step` words after the one before.
 fn overlapping(p: &[usize]) -> Maker {
-    let [functions, length, period, classes, step] = numbers(p);
+    let mut maker = overlapping_rows(numbers(p));
+    use_row(&mut maker, 0);
+    maker
+}
+
+fn overlapping_rows([functions, length, period, classes, step]: [usize; 5]) -> Maker {
     let mut maker = Maker::new();
     leading(&mut maker, length + period, classes);
     maker.words = (0..step * functions + length + period).map(|i| (length + i % period) as u16).collect();
     for k in 0..functions {
         maker.type_row(6, 0, k * step);
     }
-    use_row(&mut maker, 0);
     maker
 }
 
@@ -118,7 +159,12 @@ fn places(first: usize, gap: usize, growth: usize, end: usize) -> Vec<usize> {
 
 /// A long run of one word with few others in it; lists are windows of the run, and differ in where a mark stands.
 fn marks(p: &[usize]) -> Maker {
-    let [functions, length, first, gap, growth, step] = numbers(p);
+    let mut maker = marked_rows(numbers(p));
+    use_row(&mut maker, 0);
+    maker
+}
+
+fn marked_rows([functions, length, first, gap, growth, step]: [usize; 6]) -> Maker {
     let mut maker = Maker::new();
     leading(&mut maker, length + 2, 2);
     let end = step * functions + length + 2;
@@ -129,7 +175,6 @@ fn marks(p: &[usize]) -> Maker {
     for k in 0..functions {
         maker.type_row(6, 0, k * step);
     }
-    use_row(&mut maker, 0);
     maker
 }
 

@@ -78,6 +78,26 @@ pub fn families() -> Vec<Family> {
             |p| matches(&[p[0], 1, p[1], p[2], 0, p[3]]),
         ),
         family(
+            "arms of a name that stands elsewhere",
+            AIMS,
+            &[("variants", 1, 4000, 2), ("arms", 0, 2040, 1000), ("which", 0, 3, 0), ("elsewhere", 0, 8000, 4000)],
+            |p| {
+                let mut filler = Maker::new();
+                filler.words = vec![asked(p[2], p[0], 0) as u16; p[3]];
+                matches_in(filler, [p[0], 1, p[1], p[2], 0, 0])
+            },
+        ),
+        family(
+            "empty records of names that stand elsewhere",
+            AIMS,
+            &[("outer", 0, 2040, 60), ("inner", 0, 4000, 20), ("elsewhere", 0, 8000, 4000), ("names", 1, 4000, 20)],
+            |p| {
+                let mut filler = Maker::new();
+                filler.words = (0..p[2]).map(|i| (i % p[3]) as u16).collect();
+                empty_records_in(filler, [p[0], p[1], 0])
+            },
+        ),
+        family(
             "arms with fields",
             AIMS,
             &[("variants", 1, 3900, 2000), ("fields", 0, 200, 1), ("arms", 1, 254, 250), ("which", 0, 4, 0)],
@@ -88,7 +108,11 @@ pub fn families() -> Vec<Family> {
 
 /// The type row of definition 0 and unit before it.
 fn begun() -> (Maker, usize, usize, usize) {
-    let mut maker = Maker::new();
+    begun_in(Maker::new())
+}
+
+/// The same after other rows and lists.
+fn begun_in(mut maker: Maker) -> (Maker, usize, usize, usize) {
     let none = maker.singles(&[]);
     let unit = maker.type_row(1, 0, 0);
     let first = maker.type_row(4, 0, none);
@@ -97,8 +121,11 @@ fn begun() -> (Maker, usize, usize, usize) {
 
 /// Statements: records of so many fields, each an empty record; then empty records alone.
 fn empty_records(p: &[usize]) -> Maker {
-    let [outer, inner, alone] = numbers(p);
-    let (mut maker, none, unit, empty) = begun();
+    empty_records_in(Maker::new(), numbers(p))
+}
+
+pub fn empty_records_in(maker: Maker, [outer, inner, alone]: [usize; 3]) -> Maker {
+    let (mut maker, none, unit, empty) = begun_in(maker);
     maker.definition(1, 0, none);
     let fields = maker.pairs(&(0..inner).map(|name| (name, empty)).collect::<Vec<_>>());
     maker.definition(1, 0, fields);
@@ -168,8 +195,11 @@ fn asked(which: usize, names: usize, k: usize) -> usize {
 /// Statements: so many times a field of a field and so on, of a definition whose fields are all of its own type. The name
 /// that is asked for stands at other words too, before or after the list.
 fn looked_up(p: &[usize]) -> Maker {
-    let [fields, deep, times, which, falling, elsewhere, after] = numbers(p);
-    let (mut maker, _, unit, record) = begun();
+    looked_up_in(Maker::new(), numbers(p))
+}
+
+pub fn looked_up_in(maker: Maker, [fields, deep, times, which, falling, elsewhere, after]: [usize; 7]) -> Maker {
+    let (mut maker, _, unit, record) = begun_in(maker);
     let filler = vec![asked(which, fields, 0) as u16; elsewhere];
     if after == 0 {
         maker.words.extend(&filler);
@@ -216,8 +246,11 @@ fn of_record_type(p: &[usize]) -> Maker {
 
 /// Statements: so many matches on one enum, each with so many arms and `_`. Bare bodies are numbers of no type yet.
 fn matches(p: &[usize]) -> Maker {
-    let [variants, matches, arms, which, guarded, bare] = numbers(p);
-    let (mut maker, none, unit, enumeration) = begun();
+    matches_in(Maker::new(), numbers(p))
+}
+
+pub fn matches_in(maker: Maker, [variants, matches, arms, which, guarded, bare]: [usize; 6]) -> Maker {
+    let (mut maker, none, unit, enumeration) = begun_in(maker);
     let list = maker.pairs(&(0..variants).map(|name| (name, none)).collect::<Vec<_>>());
     maker.definition(0, 0, list);
     let literal = if bare == 1 { 5 } else { 7 };
