@@ -32,19 +32,14 @@ pub fn families() -> Vec<Family> {
                 ("gap", 1, 4000, 4000),
                 ("growth", 0, 200, 0),
                 ("step", 1, 8, 1),
+                ("turned", 0, 1, 0),
             ],
             marks,
         ),
         family(
             "functions over lists of one fingerprint",
             AIMS,
-            &[
-                ("functions", 1, 1400, 1240),
-                ("blocks", 2, 400, 140),
-                ("first", 0, 1600, 20),
-                ("gap", 1, 400, 60),
-                ("growth", 0, 40, 2),
-            ],
+            &[("groups", 1, 20, 9), ("windows", 1, 1400, 138), ("length", 600, 1400, 800)],
             fingerprints,
         ),
         family(
@@ -91,7 +86,7 @@ pub fn families() -> Vec<Family> {
                 ("deep", 1, 62, 62),
                 ("times", 1, 2000, 32),
             ],
-            |p| looked_up_in(marked_rows([p[0], p[1], p[1], 4000, 0, 1]), [p[2], p[3], p[4], 0, 0, 0, 0]),
+            |p| looked_up_in(marked_rows([p[0], p[1], p[1], 4000, 0, 1, 0]), [p[2], p[3], p[4], 0, 0, 0, 0]),
         ),
         family(
             "functions over windows of marks, and empty records",
@@ -103,7 +98,7 @@ pub fn families() -> Vec<Family> {
                 ("inner", 0, 4000, 190),
                 ("alone", 0, 2000, 400),
             ],
-            |p| empty_records_in(marked_rows([p[0], p[1], p[1], 4000, 0, 1]), [p[2], p[3], p[4]]),
+            |p| empty_records_in(marked_rows([p[0], p[1], p[1], 4000, 0, 1, 0]), [p[2], p[3], p[4]]),
         ),
         family(
             "functions over lists that overlap, and matches",
@@ -164,7 +159,7 @@ fn marks(p: &[usize]) -> Maker {
     maker
 }
 
-fn marked_rows([functions, length, first, gap, growth, step]: [usize; 6]) -> Maker {
+fn marked_rows([functions, length, first, gap, growth, step, turned]: [usize; 7]) -> Maker {
     let mut maker = Maker::new();
     leading(&mut maker, length + 2, 2);
     let end = step * functions + length + 2;
@@ -173,7 +168,8 @@ fn marked_rows([functions, length, first, gap, growth, step]: [usize; 6]) -> Mak
         maker.words[at] += 1;
     }
     for k in 0..functions {
-        maker.type_row(6, 0, k * step);
+        let window = if turned == 1 { functions - 1 - k } else { k };
+        maker.type_row(6, 0, window * step);
     }
     maker
 }
@@ -182,54 +178,55 @@ fn marked_rows([functions, length, first, gap, growth, step]: [usize; 6]) -> Mak
 const PRIME: i64 = 4_294_967_291;
 const FACTOR: i64 = 65_599;
 
-/// How far the numbers of a block may be apart.
-const APART: i64 = 300;
+/// How much less a number of a mark may be.
+const LESS: i64 = 600;
 
-/// Four differences that change no fingerprint: half of them are tried, the other half looked up.
-fn unseen() -> [i64; 4] {
-    static FOUND: OnceLock<[i64; 4]> = OnceLock::new();
-    *FOUND.get_or_init(|| {
+/// Marks that change no fingerprint: how much less than the run's each of four numbers is. Two are tried, the other two
+/// looked up.
+fn unseen() -> &'static [[i64; 4]] {
+    static FOUND: OnceLock<Vec<[i64; 4]>> = OnceLock::new();
+    FOUND.get_or_init(|| {
         let mut halves = HashMap::new();
-        for c in -APART..=APART {
-            for d in -APART..=APART {
-                halves.insert((c * FACTOR + d).rem_euclid(PRIME), (c, d));
+        for c in 0..=LESS {
+            for d in 0..=LESS {
+                halves.insert(c * FACTOR + d, [c, d]);
             }
         }
-        for a in 1..=APART {
-            for b in -APART..=APART {
-                let upper = (((a * FACTOR + b) % PRIME) * FACTOR % PRIME * FACTOR).rem_euclid(PRIME);
-                if let Some((c, d)) = halves.get(&((PRIME - upper) % PRIME)) {
-                    return [a, b, *c, *d];
+        let mut all = Vec::new();
+        for a in 0..=LESS {
+            for b in 0..=LESS {
+                let upper = (a * FACTOR + b) % PRIME * FACTOR % PRIME * FACTOR % PRIME;
+                if let Some([c, d]) = halves.get(&((PRIME - upper) % PRIME)) {
+                    all.push([a, b, *c, *d]);
                 }
             }
         }
-        panic!("no differences below {APART}")
+        all.retain(|mark| *mark != [0; 4]);
+        all
     })
 }
 
-/// Lists of blocks, a count and four types each, of two sorts with one fingerprint; lists overlap, and each starts with a
-/// block's count.
+/// Lists of one fingerprint that differ late: groups of windows over a run of one word, a mark at the end of each group's.
+/// Marks of different groups differ.
 fn fingerprints(p: &[usize]) -> Maker {
-    let [functions, blocks, first, gap, growth] = numbers(p);
-    let differences = unseen();
-    let length = 5 * blocks;
+    let [groups, windows, length] = numbers(p);
     let mut maker = Maker::new();
     maker.type_row(1, 0, 0);
     // Rows that differ, so that the number of each is its own.
-    while maker.types.len() <= length.max(2 * APART as usize + 1) {
+    while maker.types.len() <= length {
         let variable = maker.types.len();
         maker.type_row(7, variable, 0);
     }
-    let base = APART as usize + 1;
-    let end = functions + blocks;
-    let marked = places(first, gap, growth, end);
-    for block in 0..end {
-        let other = marked.contains(&block);
-        maker.words.push(length as u16);
-        maker.words.extend(differences.map(|d| (base as i64 + if other { d } else { 0 }) as u16));
-    }
-    for k in 0..functions {
-        maker.type_row(6, 0, 5 * k);
+    maker.words = vec![length as u16; groups * (length + 1) + windows + length];
+    for group in 0..groups {
+        let start = group * (length + 1);
+        let mark = unseen()[group % unseen().len()];
+        for (place, less) in mark.iter().enumerate() {
+            maker.words[start + length - 3 + place] -= *less as u16;
+        }
+        for window in 0..windows.min(length - 4) {
+            maker.type_row(6, 0, start + window);
+        }
     }
     use_row(&mut maker, 0);
     maker
