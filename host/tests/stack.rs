@@ -47,7 +47,7 @@ fn the_deepest_packs() {
     }
 }
 
-/// A pack of less than 2,000 bytes, for which a root once took 3.6 MiB.
+/// A pack of less than 2,000 bytes, for which a root once took 2.3 MiB.
 #[test]
 fn records_nested_61_deep() {
     asked("61 records nested", model::deepest::nested_records(61).bytes());

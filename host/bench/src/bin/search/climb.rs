@@ -43,7 +43,6 @@ fn changed(random: &mut Random, family: &Family, from: &[usize]) -> Vec<usize> {
 /// What was found of a family.
 struct Found {
     parameters: Vec<usize>,
-    bytes: usize,
     /// To order by: microseconds, and more than any where the pack was given up or ended the process.
     weight: f64,
 }
@@ -57,13 +56,27 @@ fn tried(timer: &mut Timer, family: &Family, ask: Ask, parameters: &[usize]) -> 
         Quick::Malformed(_) => return None,
         Quick::GivenUp | Quick::Crashed => f64::INFINITY,
     };
-    Some(Found { parameters: parameters.to_vec(), bytes: pack.len(), weight })
+    Some(Found { parameters: parameters.to_vec(), weight })
+}
+
+/// How often what seems dearer is timed again.
+const AGAIN: usize = 2;
+
+/// The same timed again, the least of all: what slowed the machine for a while does not count.
+fn again(timer: &mut Timer, family: &Family, ask: Ask, mut found: Found) -> Found {
+    for _ in 0..AGAIN {
+        if let Some(once_more) = tried(timer, family, ask, &found.parameters) {
+            found.weight = found.weight.min(once_more.weight);
+        }
+    }
+    found
 }
 
 /// The dearest pack found of a family for one question.
 fn climbed(timer: &mut Timer, family: &Family, ask: Ask, seed: u64, changes: usize) -> Found {
     let mut random = Random::new(seed);
     let first = tried(timer, family, ask, &family.start()).expect("the pack that a family begins with");
+    let first = again(timer, family, ask, first);
     let (mut best, mut at) = (first, family.start());
     let mut at_weight = best.weight;
     let mut seen = HashSet::from([family.start()]);
@@ -77,8 +90,11 @@ fn climbed(timer: &mut Timer, family: &Family, ask: Ask, seed: u64, changes: usi
         if !seen.insert(parameters.clone()) {
             continue;
         }
-        let Some(found) = tried(timer, family, ask, &parameters) else { continue };
+        let Some(mut found) = tried(timer, family, ask, &parameters) else { continue };
         vain += 1;
+        if found.weight > at_weight * DEARER && found.weight.is_finite() {
+            found = again(timer, family, ask, found);
+        }
         if found.weight > at_weight * DEARER {
             (at, at_weight, vain) = (parameters, found.weight, 0);
         }
@@ -99,14 +115,23 @@ struct Row {
     counts: Vec<(Ask, Counted)>,
 }
 
+/// Of what was found and what the family begins with, the one that counts more; time is not all.
+fn dearest(family: &Family, ask: Ask, found: &Found) -> (Vec<usize>, Vec<u8>, Counted) {
+    let count = |parameters: &[usize]| {
+        let pack = family.pack(parameters).expect("a pack that fitted before");
+        let counted = counted(ask, &pack);
+        (parameters.to_vec(), pack, counted)
+    };
+    let (found, first) = (count(&found.parameters), count(&family.start()));
+    if first.2.weight() > found.2.weight() { first } else { found }
+}
+
 fn row(family: &Family, ask: Ask, found: &Found) -> Row {
-    let pack = family.pack(&found.parameters).expect("a pack that fitted before");
-    let mut asks = Ask::ENTRIES.to_vec();
-    if ask == Ask::Program {
-        asks.push(Ask::Program);
-    }
-    let counts = asks.into_iter().map(|ask| (ask, counted(ask, &pack))).collect();
-    Row { family: family.name, told: family.told(&found.parameters), bytes: found.bytes, counts }
+    let (parameters, pack, count) = dearest(family, ask, found);
+    let others = Ask::ENTRIES.into_iter().filter(|other| *other != ask);
+    let mut counts: Vec<(Ask, Counted)> = others.map(|other| (other, counted(other, &pack))).collect();
+    counts.push((ask, count));
+    Row { family: family.name, told: family.told(&parameters), bytes: pack.len(), counts }
 }
 
 fn cell(row: &Row, ask: Ask) -> String {

@@ -6,44 +6,56 @@ use model::random::Random;
 
 const AIMS: &[Ask] = &[Ask::Types];
 
+/// Whether a definition comes after all others that leads to itself, so that all are asked whether they do.
+const ROUND: super::Parameter = ("round", 0, 1, 1);
+
 pub fn families() -> Vec<Family> {
     vec![
         family(
             "definitions over lists that overlap",
             AIMS,
-            &[("definitions", 1, 512, 512), ("length", 1, 2047, 2000), ("classes", 1, 34, 1), ("step", 1, 8, 1)],
-            overlapping,
+            &[("definitions", 1, 512, 511), ("length", 1, 2046, 2000), ("classes", 1, 34, 1), ("step", 1, 8, 1), ROUND],
+            |p| round(overlapping, p),
         ),
         family(
             "enums over lists that overlap",
             AIMS,
-            &[("definitions", 1, 512, 512), ("length", 1, 4000, 3001), ("step", 1, 8, 1)],
-            overlapping_enums,
+            &[("definitions", 1, 512, 511), ("length", 1, 4000, 3001), ("step", 1, 8, 1), ROUND],
+            |p| round(overlapping_enums, p),
         ),
-        family("each definition leads to all after it", AIMS, &[("definitions", 1, 512, 512)], triangle),
+        family("each definition leads to all after it", AIMS, &[("definitions", 1, 512, 511), ROUND], |p| {
+            round(triangle, p)
+        }),
         family(
             "definitions over one list",
             AIMS,
-            &[("definitions", 1, 512, 512), ("length", 0, 4080, 4080), ("kind", 0, 1, 0), ("fields", 0, 2000, 0)],
-            one_list,
+            &[
+                ("definitions", 1, 512, 511),
+                ("length", 0, 4080, 4070),
+                ("kind", 0, 1, 0),
+                ("fields", 0, 2000, 0),
+                ROUND,
+            ],
+            |p| round(one_list, p),
         ),
         family(
             "definitions in a chain",
             AIMS,
-            &[("definitions", 1, 512, 512), ("between", 0, 10, 2), ("down", 0, 1, 0), ("round", 0, 1, 0)],
-            chain,
+            &[("definitions", 1, 512, 511), ("between", 0, 10, 2), ("down", 0, 1, 0), ("closed", 0, 1, 0), ROUND],
+            |p| round(chain, p),
         ),
         family(
             "definitions that lead to several",
             AIMS,
             &[
-                ("definitions", 1, 512, 512),
+                ("definitions", 1, 512, 511),
                 ("degree", 1, 400, 7),
                 ("kind", 0, 1, 1),
                 ("seed", 0, 1000, 1),
                 ("back", 0, 1, 0),
+                ROUND,
             ],
-            several,
+            |p| round(several, p),
         ),
         family(
             "variants over field lists that overlap",
@@ -51,18 +63,32 @@ pub fn families() -> Vec<Family> {
             &[
                 ("definitions", 1, 512, 1),
                 ("variants", 1, 4000, 2000),
-                ("length", 1, 2047, 2000),
+                ("length", 1, 2046, 2000),
                 ("classes", 1, 34, 1),
+                ROUND,
             ],
-            field_lists,
+            |p| round(field_lists, p),
         ),
         family(
             "fields of records that hold records",
             AIMS,
-            &[("definitions", 1, 512, 512), ("rows", 1, 2040, 1500), ("times", 1, 40, 1)],
-            nested_records,
+            &[("definitions", 1, 512, 511), ("rows", 1, 2040, 1500), ("times", 1, 40, 1), ROUND],
+            |p| round(nested_records, p),
         ),
     ]
+}
+
+/// A family's pack, and where the last parameter says so a definition after all others that leads to itself.
+fn round(make: fn(&[usize]) -> Maker, p: &[usize]) -> Maker {
+    let (round, own) = p.split_last().expect("at least whether it goes round");
+    let mut maker = make(own);
+    if *round == 1 {
+        let none = maker.singles(&[]);
+        let itself = maker.type_row(4, maker.definitions.len(), none);
+        let list = maker.pairs(&[(0, itself)]);
+        maker.definition(1, 0, list);
+    }
+    maker
 }
 
 /// Record definitions: each type is the count of the next list. Names come round after a list's length.
@@ -130,8 +156,8 @@ fn one_list(p: &[usize]) -> Maker {
 }
 
 fn chain(p: &[usize]) -> Maker {
-    let [definitions, between, down, round] = numbers(p);
-    let end = (round == 1).then(|| if down == 1 { definitions - 1 } else { 0 });
+    let [definitions, between, down, closed] = numbers(p);
+    let end = (closed == 1).then(|| if down == 1 { definitions - 1 } else { 0 });
     model::deepest::definitions(definitions, between, down == 1, end)
 }
 
