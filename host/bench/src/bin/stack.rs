@@ -67,29 +67,36 @@ fn told(kib: Option<usize>) -> String {
     kib.map_or(format!("over {MOST}"), |kib| kib.to_string())
 }
 
+/// Where the program is not there, its column is left out.
+fn asked() -> &'static [&'static str] {
+    if program().exists() { &ASKED } else { &ASKED[..3] }
+}
+
 fn table() {
+    let asked = asked();
     let file = format!("{}/stack-{}.rpk", std::env::temp_dir().display(), std::process::id());
-    let mut worst: [(usize, &str); 4] = [(0, ""); 4];
-    println!("| pack | bytes | {} |", ASKED.join(" | "));
-    println!("|---|---|{}", "---|".repeat(ASKED.len()));
+    let mut worst: Vec<(usize, &str)> = vec![(0, ""); asked.len()];
+    println!("| pack | bytes | {} |", asked.join(" | "));
+    println!("|---|---|{}", "---|".repeat(asked.len()));
     let mut packs = model::deepest::packs();
     packs.insert(0, ("61 records nested", model::deepest::nested_records(61).bytes()));
     for (name, pack) in packs {
         std::fs::write(&file, &pack).expect("a file");
-        let found = ASKED.map(|asked| smallest(asked, &file));
-        for (most, kib) in worst.iter_mut().zip(found) {
+        let found: Vec<Option<usize>> = asked.iter().map(|asked| smallest(asked, &file)).collect();
+        for (most, kib) in worst.iter_mut().zip(&found) {
             let kib = kib.unwrap_or(MOST + 1);
             if kib > most.0 {
                 *most = (kib, name);
             }
         }
-        println!("| {name} | {} | {} |", pack.len(), found.map(told).join(" | "));
+        let cells: Vec<String> = found.into_iter().map(told).collect();
+        println!("| {name} | {} | {} |", pack.len(), cells.join(" | "));
     }
     std::fs::remove_file(&file).ok();
     println!();
     println!("| asked | the pack that needs most | KiB |");
     println!("|---|---|---|");
-    for (asked, (kib, name)) in ASKED.iter().zip(worst) {
+    for (asked, (kib, name)) in asked.iter().zip(worst) {
         println!("| {asked} | {name} | {} |", told((kib <= MOST).then_some(kib)));
     }
 }

@@ -2,7 +2,7 @@
 
 use crate::count::{Counted, counted};
 use crate::families::{self, Ask, Family};
-use crate::quick::{Quick, Timer};
+use crate::quick::{Quick, Timer, program_path};
 use model::random::Random;
 use std::collections::HashSet;
 
@@ -164,8 +164,15 @@ pub fn search(seed: u64, minutes: usize) {
     let mut rows = Vec::new();
     println!("| family | parameters | bytes | types | root | order | program |");
     println!("|---|---|---|---|---|---|---|");
+    let there = program_path().exists();
+    if !there {
+        eprintln!(
+            "{} is not there: `rt check check_pack` makes it; families for it are left out",
+            program_path().display()
+        );
+    }
     for (number, family) in families::all().iter().enumerate() {
-        for ask in family.aims {
+        for ask in family.aims.iter().filter(|ask| there || **ask != Ask::Program) {
             let found = climbed(&mut timer, family, *ask, seed * 1000 + number as u64, CHANGES * minutes);
             let row = row(family, *ask, &found);
             print(&row);

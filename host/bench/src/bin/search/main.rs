@@ -60,7 +60,7 @@ fn main() {
             let pack = pack_of(&family_of(name), rest);
             let counted: Vec<String> = Ask::ENTRIES
                 .iter()
-                .chain(&[Ask::Program])
+                .chain(quick::program_path().exists().then_some(&Ask::Program))
                 .map(|ask| format!("{} {}", ask.name(), count::counted(*ask, &pack)))
                 .collect();
             println!("{} bytes; millions of instructions: {}", pack.len(), counted.join(", "));
