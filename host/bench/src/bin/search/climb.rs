@@ -158,8 +158,8 @@ fn print_worst(rows: &[Row]) {
     }
 }
 
-/// Searches every family for what it is meant to make dear, and prints what was found.
-pub fn search(seed: u64, minutes: usize) {
+/// Searches every family that has this part in its name for what it is meant to make dear, and prints what was found.
+pub fn search(seed: u64, minutes: usize, part: &str) {
     let mut timer = Timer::new();
     let mut rows = Vec::new();
     println!("| family | parameters | bytes | types | root | order | program |");
@@ -171,7 +171,8 @@ pub fn search(seed: u64, minutes: usize) {
             program_path().display()
         );
     }
-    for (number, family) in families::all().iter().enumerate() {
+    let all = families::all();
+    for (number, family) in all.iter().enumerate().filter(|(_, family)| family.name.contains(part)) {
         for ask in family.aims.iter().filter(|ask| there || **ask != Ask::Program) {
             let found = climbed(&mut timer, family, *ask, seed * 1000 + number as u64, CHANGES * minutes);
             let row = row(family, *ask, &found);

@@ -1,6 +1,7 @@
 //! The search for the dearest packs.
 //!
-//!     search SEED [MINUTES]              searches, and prints the table of families and the worst of each entry
+//!     search SEED [MINUTES [PART]]       searches, and prints the table of families and the worst of each entry; with PART
+//!                                        only the families that have it in their names
 //!     search write FAMILY FILE [N ..]    writes a family's pack, with these parameters or those it begins with
 //!     search count FAMILY [N ..]         its instructions
 //!     search families                    the families and their parameters
@@ -65,12 +66,12 @@ fn main() {
                 .collect();
             println!("{} bytes; millions of instructions: {}", pack.len(), counted.join(", "));
         }
-        [seed, ref minutes @ ..] if seed.parse::<u64>().is_ok() && minutes.len() <= 1 => {
-            let minutes = minutes.first().map_or(MINUTES, |m| m.parse().expect("minutes"));
-            climb::search(seed.parse().expect("a seed"), minutes);
+        [seed, ref rest @ ..] if seed.parse::<u64>().is_ok() && rest.len() <= 2 => {
+            let minutes = rest.first().map_or(MINUTES, |m| m.parse().expect("minutes"));
+            climb::search(seed.parse().expect("a seed"), minutes, rest.get(1).unwrap_or(&""));
         }
         _ => {
-            eprintln!("search SEED [MINUTES] | write FAMILY FILE [N ..] | count FAMILY [N ..] | families");
+            eprintln!("search SEED [MINUTES [PART]] | write FAMILY FILE [N ..] | count FAMILY [N ..] | families");
             std::process::exit(2);
         }
     }
