@@ -1,8 +1,8 @@
 //! The search: each family's parameters are changed at random, and a change that makes the pack dearer is kept.
 
-use crate::count::{Counted, counted};
+use crate::count::{Counted, Counter, counted};
 use crate::families::{self, Ask, Family};
-use crate::quick::{Quick, Timer, program_path};
+use crate::quick::{Quick, Timer, is_of_making, program_path};
 use model::random::Random;
 use std::collections::HashSet;
 
@@ -115,23 +115,63 @@ struct Row {
     counts: Vec<(Ask, Counted)>,
 }
 
+/// How many changes a minute stands for once instructions are counted.
+const COUNTED: usize = 30;
+
+/// What takes longer than this, in microseconds, is past every limit, and its count is not made larger.
+const LONG: f64 = 50_000.0;
+
 /// Of what was found and what the family begins with, the one that counts more; time is not all.
-fn dearest(family: &Family, ask: Ask, found: &Found) -> (Vec<usize>, Vec<u8>, Counted) {
+fn dearest(family: &Family, ask: Ask, found: &Found) -> (Vec<usize>, Counted) {
     let count = |parameters: &[usize]| {
         let pack = family.pack(parameters).expect("a pack that fitted before");
-        let counted = counted(ask, &pack);
-        (parameters.to_vec(), pack, counted)
+        (parameters.to_vec(), counted(ask, &pack))
     };
     let (found, first) = (count(&found.parameters), count(&family.start()));
-    if first.2.weight() > found.2.weight() { first } else { found }
+    if first.1.weight() > found.1.weight() { first } else { found }
 }
 
-fn row(family: &Family, ask: Ask, found: &Found) -> Row {
-    let (parameters, pack, count) = dearest(family, ask, found);
+/// The same, padded.
+fn padded(parameters: &[usize]) -> Vec<usize> {
+    let mut parameters = parameters.to_vec();
+    *parameters.last_mut().expect("at least whether it is padded") = 1;
+    parameters
+}
+
+/// Goes on from there by counts.
+fn refined(
+    counter: &mut Counter,
+    family: &Family,
+    ask: Ask,
+    random: &mut Random,
+    changes: usize,
+    mut best: (Vec<usize>, f64),
+) -> (Vec<usize>, f64) {
+    let mut seen = HashSet::from([best.0.clone()]);
+    for change in 0..changes {
+        let parameters = if change == 0 { padded(&best.0) } else { changed(random, family, &best.0) };
+        if !seen.insert(parameters.clone()) {
+            continue;
+        }
+        let Some(pack) = family.pack(&parameters) else { continue };
+        match counter.count(ask, &pack) {
+            Some((millions, number)) if millions > best.1 && (family.read_only || !is_of_making(number)) => {
+                best = (parameters, millions);
+            }
+            Some(_) => {}
+            // It took too long, or ended: a new process goes on.
+            None => *counter = Counter::new(),
+        }
+    }
+    best
+}
+
+fn row(family: &Family, ask: Ask, parameters: &[usize], count: Counted) -> Row {
+    let pack = family.pack(parameters).expect("a pack that fitted before");
     let others = Ask::ENTRIES.into_iter().filter(|other| *other != ask);
     let mut counts: Vec<(Ask, Counted)> = others.map(|other| (other, counted(other, &pack))).collect();
     counts.push((ask, count));
-    Row { family: family.name, told: family.told(&parameters), bytes: pack.len(), counts }
+    Row { family: family.name, told: family.told(parameters), bytes: pack.len(), counts }
 }
 
 fn cell(row: &Row, ask: Ask) -> String {
@@ -161,6 +201,7 @@ fn print_worst(rows: &[Row]) {
 /// Searches every family that has this part in its name for what it is meant to make dear, and prints what was found.
 pub fn search(seed: u64, minutes: usize, part: &str) {
     let mut timer = Timer::new();
+    let mut counter = Counter::new();
     let mut rows = Vec::new();
     println!("| family | parameters | bytes | types | root | order | program |");
     println!("|---|---|---|---|---|---|---|");
@@ -174,8 +215,19 @@ pub fn search(seed: u64, minutes: usize, part: &str) {
     let all = families::all();
     for (number, family) in all.iter().enumerate().filter(|(_, family)| family.name.contains(part)) {
         for ask in family.aims.iter().filter(|ask| there || **ask != Ask::Program) {
-            let found = climbed(&mut timer, family, *ask, seed * 1000 + number as u64, CHANGES * minutes);
-            let row = row(family, *ask, &found);
+            let seed = seed * 1000 + number as u64;
+            let found = climbed(&mut timer, family, *ask, seed, CHANGES * minutes);
+            let (mut parameters, mut count) = dearest(family, *ask, &found);
+            if let Counted::Millions(millions) = count
+                && *ask != Ask::Program
+                && found.weight < LONG
+            {
+                let mut random = Random::new(seed);
+                let from = (parameters, millions);
+                let (to, millions) = refined(&mut counter, family, *ask, &mut random, COUNTED * minutes, from);
+                (parameters, count) = (to, Counted::Millions(millions));
+            }
+            let row = row(family, *ask, &parameters, count);
             print(&row);
             rows.push(row);
         }

@@ -89,18 +89,30 @@ impl Family {
 /// Whether the tables of a pack are filled up to their limits with rows that are good for nothing.
 const PADDED: Parameter = ("padded", 0, 1, 0);
 
-/// Fills the tables up. What is there keeps its number.
+/// Fills the tables up as far as there is room. What is there keeps its number.
 fn pad(maker: &mut Maker) {
     let [types, definitions, expressions, _, values, words] = Counts::LIMITS;
-    let none = maker.singles(&[]);
-    let boolean = maker.primitive(4);
-    while maker.types.len() < types {
-        maker.type_row(1, 0, 0);
-    }
     while maker.definitions.len() < definitions {
         maker.definition(2, 0, 0);
     }
-    // A tree of And: with so many leaves it has one node less than twice as many.
+    if maker.words.len() < words {
+        let none = maker.singles(&[]);
+        if maker.types.len() < types {
+            pad_expressions(maker, none, expressions);
+        }
+        while maker.values.len() < values {
+            maker.values.push(1 << 30 | none as u32);
+        }
+        maker.words.resize(words, 0);
+    }
+    while maker.types.len() < types {
+        maker.type_row(1, 0, 0);
+    }
+}
+
+/// A root that is a tree of And: with so many leaves it has one node less than twice as many.
+fn pad_expressions(maker: &mut Maker, parameters: usize, expressions: usize) {
+    let boolean = maker.primitive(4);
     let leaves = (expressions.saturating_sub(maker.expressions.len()) + 1) / 2;
     let mut level: Vec<usize> = (0..leaves).map(|_| maker.literal(4)).collect();
     while level.len() > 1 {
@@ -111,13 +123,7 @@ fn pad(maker: &mut Maker) {
             .collect();
     }
     if let Some(body) = level.first() {
-        maker.roots.push((*body as u64) << 50 | (boolean as u64) << 36 | (none as u64) << 22);
-    }
-    while maker.values.len() < values {
-        maker.values.push(1 << 30 | none as u32);
-    }
-    if maker.words.len() < words {
-        maker.words.resize(words, 0);
+        maker.roots.push((*body as u64) << 50 | (boolean as u64) << 36 | (parameters as u64) << 22);
     }
 }
 

@@ -6,7 +6,7 @@
 //!     search count FAMILY [N ..]         its instructions
 //!     search families                    the families and their parameters
 //!     search one ENTRY FILE              calls one entry once, for counting
-//!     search serve                       times packs that come on standard input
+//!     search serve                       times packs that come on standard input; serve-counted counts them
 //!
 //! The same seed proposes the same changes. Which change is kept is decided by the time it takes, so two runs may end with
 //! other parameters; those that are printed make the same pack again.
@@ -51,7 +51,8 @@ fn listed() {
 fn main() {
     let words: Vec<String> = std::env::args().skip(1).collect();
     match words.iter().map(String::as_str).collect::<Vec<_>>()[..] {
-        ["serve"] => quick::serve(),
+        ["serve"] => quick::serve(quick::least),
+        ["serve-counted"] => quick::serve(count::dumped),
         ["one", entry, file] => quick::one(entry, &std::fs::read(file).expect("a pack")),
         ["families"] => listed(),
         ["write", name, file, ref rest @ ..] => {

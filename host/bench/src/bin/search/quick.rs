@@ -32,7 +32,8 @@ pub enum Quick {
     Crashed,
 }
 
-fn call(entry: &str, pack: &[u8], area: &mut [u8]) -> u32 {
+/// Calls one entry: the refusal's number, or 0.
+pub fn call(entry: &str, pack: &[u8], area: &mut [u8]) -> u32 {
     let answer = match entry {
         "types" => rulepack::check_types(black_box(pack)),
         "root" => rulepack::check_root(black_box(pack), 0, area),
@@ -54,7 +55,7 @@ pub fn one(entry: &str, pack: &[u8]) {
 }
 
 /// The least time of a few calls, in microseconds, and the refusal's number.
-fn least(entry: &str, pack: &[u8], area: &mut [u8]) -> (f64, u32) {
+pub fn least(entry: &str, pack: &[u8], area: &mut [u8]) -> (f64, u32) {
     let begun = Instant::now();
     let (mut least, mut number) = (f64::MAX, 0);
     for _ in 0..CALLS {
@@ -68,9 +69,9 @@ fn least(entry: &str, pack: &[u8], area: &mut [u8]) -> (f64, u32) {
     (least, number)
 }
 
-/// Times each pack on standard input: a line with the entry and the length, then the bytes.
-pub fn serve() {
-    with_ample_stack(|| {
+/// Measures each pack on standard input: a line with the entry and the length, then the bytes.
+pub fn serve(measure: fn(&str, &[u8], &mut [u8]) -> (f64, u32)) {
+    with_ample_stack(move || {
         let mut input = std::io::stdin().lock();
         let mut area = vec![0; 4 * 4096];
         let mut line = String::new();
@@ -78,25 +79,30 @@ pub fn serve() {
             let (entry, length) = line.trim().split_once(' ').expect("an entry and a length");
             let mut pack = vec![0; length.parse().expect("a length")];
             input.read_exact(&mut pack).expect("a pack");
-            let (took, number) = least(entry, &pack, &mut area);
+            let (took, number) = measure(entry, &pack, &mut area);
             println!("{took} {number}");
             line.clear();
         }
     });
 }
 
-/// The process that times, with what it says.
-struct Server {
+/// A process that measures, with what it says.
+pub struct Server {
     child: Child,
     input: ChildStdin,
     lines: Receiver<String>,
 }
 
 impl Server {
-    fn started() -> Self {
-        let program = std::env::current_exe().expect("this program");
-        let mut command = Command::new(program);
-        command.arg("serve").stdin(Stdio::piped()).stdout(Stdio::piped()).stderr(Stdio::null());
+    /// One that times.
+    fn of_times() -> Self {
+        let mut command = Command::new(std::env::current_exe().expect("this program"));
+        command.arg("serve");
+        Self::started(command)
+    }
+
+    pub fn started(mut command: Command) -> Self {
+        command.stdin(Stdio::piped()).stdout(Stdio::piped()).stderr(Stdio::null());
         let mut child = command.spawn().expect("this program runs");
         let (input, output) = (child.stdin.take().expect("a pipe"), child.stdout.take().expect("a pipe"));
         let (sender, lines) = channel();
@@ -108,6 +114,29 @@ impl Server {
             }
         });
         Server { child, input, lines }
+    }
+
+    /// What it says of a pack: a figure, and the refusal's number. None where it said nothing in time.
+    pub fn asked(&mut self, ask: Ask, pack: &[u8], seconds: u64) -> Option<(f64, u32)> {
+        writeln!(self.input, "{} {}", ask.name(), pack.len()).ok()?;
+        self.input.write_all(pack).and_then(|()| self.input.flush()).ok()?;
+        let line = self.lines.recv_timeout(Duration::from_secs(seconds)).ok()?;
+        let (figure, number) = line.split_once(' ').expect("a figure and a number");
+        Some((figure.parse().expect("a figure"), number.parse().expect("a number")))
+    }
+
+    /// Whether it ended by itself; it is ended in any case.
+    fn ended(&mut self) -> bool {
+        let alone = self.child.try_wait().is_ok_and(|status| status.is_some());
+        self.child.kill().ok();
+        self.child.wait().ok();
+        alone
+    }
+}
+
+impl Drop for Server {
+    fn drop(&mut self) {
+        self.ended();
     }
 }
 
@@ -125,36 +154,20 @@ impl Timer {
         if ask == Ask::Program {
             return program(pack);
         }
-        let server = self.server.get_or_insert_with(Server::started);
-        let asked = writeln!(server.input, "{} {}", ask.name(), pack.len())
-            .and_then(|()| server.input.write_all(pack))
-            .and_then(|()| server.input.flush());
-        let said = server.lines.recv_timeout(Duration::from_secs(GIVE_UP));
-        match said {
-            Ok(line) if asked.is_ok() => {
-                let (took, number) = line.split_once(' ').expect("a time and a number");
-                let took = took.parse().expect("a time");
-                let number: u32 = number.parse().expect("a number");
-                if (1..=MADE).contains(&number) { Quick::Malformed(took) } else { Quick::Took(took) }
-            }
-            _ => {
-                let mut ended = self.server.take().expect("a process");
-                let crashed = ended.child.try_wait().is_ok_and(|status| status.is_some());
-                ended.child.kill().ok();
-                ended.child.wait().ok();
+        match self.server.get_or_insert_with(Server::of_times).asked(ask, pack, GIVE_UP) {
+            Some((took, number)) if is_of_making(number) => Quick::Malformed(took),
+            Some((took, _)) => Quick::Took(took),
+            None => {
+                let crashed = self.server.take().is_some_and(|mut server| server.ended());
                 if crashed { Quick::Crashed } else { Quick::GivenUp }
             }
         }
     }
 }
 
-impl Drop for Timer {
-    fn drop(&mut self) {
-        if let Some(server) = &mut self.server {
-            server.child.kill().ok();
-            server.child.wait().ok();
-        }
-    }
+/// Whether a refusal is of how a pack is made.
+pub fn is_of_making(number: u32) -> bool {
+    (1..=MADE).contains(&number)
 }
 
 /// The program that checks a whole pack: that which CHECK_PACK names, or the one of this checkout.
