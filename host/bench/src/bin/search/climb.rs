@@ -116,10 +116,10 @@ struct Row {
 }
 
 /// How many changes a minute stands for once instructions are counted.
-const COUNTED: usize = 30;
+const COUNTED: usize = 15;
 
 /// What takes longer than this, in microseconds, is past every limit, and its count is not made larger.
-const LONG: f64 = 50_000.0;
+const LONG: f64 = 6_000.0;
 
 /// Of what was found and what the family begins with, the one that counts more; time is not all.
 fn dearest(family: &Family, ask: Ask, found: &Found) -> (Vec<usize>, Counted) {
@@ -190,9 +190,9 @@ fn print_worst(rows: &[Row]) {
     println!("| asked | the dearest found | parameters | millions |");
     println!("|---|---|---|---|");
     for ask in [Ask::Types, Ask::Root, Ask::Order, Ask::Program] {
-        let counts = |row: &Row| row.counts.iter().find(|(of, _)| *of == ask).map(|(_, counted)| counted.clone());
-        let weight = |row: &&Row| counts(row).map_or(-1.0, |counted| counted.weight());
-        if let Some(worst) = rows.iter().max_by(|a, b| weight(a).total_cmp(&weight(b))) {
+        let weight = |row: &Row| row.counts.iter().find(|(of, _)| *of == ask).map(|(_, counted)| counted.weight());
+        let weighed = rows.iter().filter_map(|row| weight(row).map(|weight| (weight, row)));
+        if let Some((_, worst)) = weighed.max_by(|a, b| a.0.total_cmp(&b.0)) {
             println!("| {} | {} | {} | {} |", ask.name(), worst.family, worst.told, cell(worst, ask));
         }
     }
