@@ -8,8 +8,8 @@
 //!     search one ENTRY FILE              calls one entry once, for counting
 //!     search serve                       times packs that come on standard input; serve-counted counts them
 //!
-//! The same seed proposes the same changes. Which change is kept is decided by the time it takes, so two runs may end with
-//! other parameters; those that are printed make the same pack again.
+//! The same seed proposes the same changes. Which is kept is decided by time first, so two runs may end with other
+//! parameters; those that are printed make the same pack again.
 
 mod climb;
 mod count;

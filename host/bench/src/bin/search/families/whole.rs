@@ -25,7 +25,7 @@ pub fn families() -> Vec<Family> {
         family(
             "roots that look fields up",
             AIMS,
-            &[("roots", 1, 256, 256), ("fields", 1, 4080, 3000), ("deep", 1, 60, 14)],
+            &[("roots", 1, 256, 256), ("fields", 1, 4080, 3000), ("times", 1, 60, 7)],
             fields,
         ),
         family("roots of empty records", AIMS, &[("roots", 1, 256, 256), ("records", 0, 40, 14)], records),
@@ -109,18 +109,15 @@ fn matches(p: &[usize]) -> Maker {
     maker
 }
 
+/// Each root looks the last field up so many times.
 fn fields(p: &[usize]) -> Maker {
-    let [roots, fields, deep] = numbers(p);
-    let (mut maker, none, _, _) = begun();
-    // A list definition of types stands between, so that the record does not contain itself; its last field is the unit.
-    let unit = 0;
-    let inner = maker.type_row(4, 1, none);
+    let [roots, fields, times] = numbers(p);
+    let (mut maker, _, unit, record) = begun();
     let list = maker.pairs(&(0..fields).map(|name| (name, unit)).collect::<Vec<_>>());
-    maker.definition(2, 0, 0);
     maker.definition(1, 0, list);
-    let parameters = maker.pairs(&[(0, inner)]);
+    let parameters = maker.pairs(&[(0, record)]);
     for _ in 0..roots {
-        let statements: Vec<usize> = (0..deep / 2)
+        let statements: Vec<usize> = (0..times)
             .map(|_| {
                 let of = maker.slot(0);
                 maker.field(of, fields - 1)
