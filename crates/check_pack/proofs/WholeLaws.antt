@@ -49,8 +49,8 @@ pub has-room : (p area : List ℕ) (c : Counts) → formedOf p ≡ Pack c → 20
 has-room p area c e l = orders p c area e (omega (arith, few p c e .values))
 
 -- and at most 4,096 expressions, so 16,384 bytes are long enough for their words
-pub checks : {p same marks words : List ℕ} {c : Counts} → formedOf p ≡ Pack c → Numbers p c same marks → length words ≡ 16384 → Checks p c same marks words
-checks {p = p} {c = c} e t n = root-checks e t (omega (arith, few p c e .expressions))
+pub checks : {p same marks words : List ℕ} {c : Counts} {i : ℕ} → formedOf p ≡ Pack c → i < c .roots → Numbers p c same marks → length words ≡ 16384 → Checks p c same marks i words
+checks {p = p} {c = c} e i t n = root-checks e i t (omega (arith, few p c e .expressions))
 
 -- ---- the loop over the roots
 

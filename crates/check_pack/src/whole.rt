@@ -16,8 +16,10 @@ use names::fill_names;
 use pack::Counts;
 use pack::Reading;
 use structure::number_rows;
+use unionfind::UnionFind;
 use value_cycle::Order;
 use value_cycle::find_compilation_order;
+use words::Notes;
 
 // The bytes that the longest order takes.
 pub const AREA: usize = 2048;
@@ -59,11 +61,23 @@ fn check_roots(pack: &[u8], c: Counts) -> Checked
     let marks = table.marks;
     let mut index = NameIndex::empty();
     fill_names(pack, c, &mut index.table);
+    let mut cells = UnionFind::empty().cells;
+    let mut notes = Notes::empty().notes;
     let mut words = [0u8; WORDS];
     let n = c.roots;
     let mut i = 0;
     while i < n {
-        let answer = check_root(pack, c, &index.table, &same, &marks, i, &mut words);
+        let answer = check_root(
+            pack,
+            c,
+            &index.table,
+            &same,
+            &marks,
+            &mut cells,
+            &mut notes,
+            i,
+            &mut words,
+        );
         match answer {
             Checked::Report => {
                 i += 1;

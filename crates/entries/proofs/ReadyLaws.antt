@@ -148,9 +148,11 @@ types-formed p c e =
         cycles-passed p (countsOf p) (says p (countsOf p) (g .0) (g .1)) (ap passes (sym (h .1) ∙ e))
 
 -- what module 4 asks for, of a table that `number_rows` made
-pub root-checks : {p same marks area : List ℕ} {c : Counts} → formedOf p ≡ Pack c → Numbers p c same marks → 4 * c .expressions ≤ length area → Checks p c same marks area
-root-checks {p = p} {c = c} e t l =
+pub root-checks : {p same marks area : List ℕ} {c : Counts} {root : ℕ} → formedOf p ≡ Pack c → root < c .roots → Numbers p c same marks → 4 * c .expressions ≤ length area → Checks p c same marks root area
+root-checks {p = p} {c = c} e i t l =
     record {
+      formed = e;
+      inside = i;
       table = t;
       small = λ i k h m. parts-smaller p c (well-formed p c e .rows-passed) i k h m;
       room = limited c (well-formed p c e .headed .limits) .types;

@@ -25,7 +25,7 @@ use Rattle.words.specs.Words.{wordByte, wordOf, wordsArea}
 use Rattle.expr.specs.State.{Env, env, State, Ans}
 use Rattle.expr.specs.Rules.{exprRule}
 use Rattle.expr.specs.Root.{start, rootRule, checkedAs, written, rootAnswerIn, rootAreaIn}
-use Rattle.expr.specs.Visits.{treeOf}
+use Rattle.report.specs.Visits.{treeOf}
 use Rattle.expr.specs.declared.answer.Outcome.{Outcome}
 use Rattle.expr.specs.declared.answer.Step.{Step}
 use Rattle.expr.specs.declared.answer.Step.the-variants.{Done, Refused}

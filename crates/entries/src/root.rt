@@ -1,6 +1,6 @@
 // A root for the host: module 4 on a pack that is well-formed, in an area with room for the words of its nodes.
 ghost use mathlib.Core.Path.{_≡_};
-ghost use Prim.Native.Nat.{_*_, _≤_};
+ghost use Prim.Native.Nat.{_*_, _<_, _≤_};
 ghost use lib.ListN.{length};
 ghost use Rattle.pack.specs.declared.answer.Reading.the-variants.{Pack};
 ghost use Rattle.formed.specs.Formed.{formedOf};
@@ -16,10 +16,12 @@ use names::fill_names;
 use pack::Counts;
 use pack::Reading;
 use structure::number_rows;
+use unionfind::UnionFind;
+use words::Notes;
 
-// The root of a well-formed pack, its rows numbered by structure and its names put in order first.
+// A root of a well-formed pack, its rows numbered by structure and its names put in order first.
 fn check_numbered(pack: &[u8], c: Counts, root: u32, area: &mut [u8]) -> Checked
-    requires { ⌜ (formedOf (now pack) ≡ Pack c) × (4 * c .expressions ≤ length (now area)) ⌝ }
+    requires { ⌜ (formedOf (now pack) ≡ Pack c) × (root < c .roots) × (4 * c .expressions ≤ length (now area)) ⌝ }
     ensures { λ r. ⌜ checked r (now (area .exit)) ≡ checkedIn (now (pack .entry)) c root (now (area .entry)) ⌝ }
 {
     let table = number_rows(pack, c);
@@ -27,7 +29,19 @@ fn check_numbered(pack: &[u8], c: Counts, root: u32, area: &mut [u8]) -> Checked
     let marks = table.marks;
     let mut index = NameIndex::empty();
     fill_names(pack, c, &mut index.table);
-    check_root(pack, c, &index.table, &same, &marks, root, area)
+    let mut cells = UnionFind::empty().cells;
+    let mut notes = Notes::empty().notes;
+    check_root(
+        pack,
+        c,
+        &index.table,
+        &same,
+        &marks,
+        &mut cells,
+        &mut notes,
+        root,
+        area,
+    )
 }
 
 fn check_one(pack: &[u8], root: u64, area: &mut [u8]) -> Checked

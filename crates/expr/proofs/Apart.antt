@@ -19,7 +19,7 @@ use Rattle.rows.proofs.Promises.{root-inside}
 use Rattle.trees.specs.Nodes.{bodiesOf, parentOf, maxDepth}
 use Rattle.trees.proofs.TreeLaws.{at-row, uses-split, parent-is, parent-none}
 use Rattle.formed.proofs.Promises.{WellFormed}
-use Rattle.expr.specs.Visits.{sum, treeOf}
+use Rattle.report.specs.Visits.{sum, treeOf}
 use Rattle.expr.proofs.Nodes.{kid-inside, body-free}
 use Rattle.expr.proofs.Trees.{tree-at, tree-below, with-parent}
 

@@ -25,6 +25,7 @@ use Rattle.unionfind.proofs.States.{makes, makes-none}
 use Rattle.unify.specs.Unify.{resolveOf, settled, Resolves, unifyAnswer, unifyCells}
 use Rattle.unify.proofs.Resolving.{resolves}
 use Rattle.unify.proofs.Unifying.{unifies}
+use Rattle.report.specs.Report.{Held}
 use Rattle.expr.specs.State.{State, Ans, Typing, st, ran, typedAs, withCells, done, cont, _then_, contWith, _gives_, resolving, freshType, stepFor, unifyStep}
 use Rattle.expr.specs.Rules.{Run}
 use Rattle.expr.specs.Ready.{Coded, Ready, After, AfterTyped, Ran, Types}
@@ -57,6 +58,10 @@ module _ {vars : ℕ} {c s w : List ℕ} where
 
   pub after : {a : Ans} {r : Step} {o : Outcome} → Ran vars a r c s w → r ≡ Done o → (vars ≤ o .vars) × Ready (o .vars) (st c s w)
   after {o = o} h e = let k : After vars (Done o) (st c s w) = rw e at (h .ready) in k
+
+  -- the variables in use, and that each note knows them, for the report
+  pub held-after : {a : Ans} {r : Step} {o : Outcome} → Ran vars a r c s w → r ≡ Done o → Held (o .vars) c w
+  held-after h e = let k = after h e .1 in record { live = k .live; known = λ i. k .notes .each i .known }
 
   pub after-type : {a : Typing} {r : Typed} {x more : ℕ} → Types vars a r c s w → r ≡ typed.Type x more → (vars ≤ more) × (Ready more (st c s w) × Coded more x)
   after-type {x = x} {more = more} h e = let k : AfterTyped vars (typed.Type x more) (st c s w) = rw e at (h .ready) in k

@@ -21,7 +21,7 @@ use Rattle.pack.specs.declared.counts.Counts.{Counts}
 use Rattle.trees.specs.Nodes.{parentOf, depthOf, maxDepth}
 use Rattle.trees.proofs.TreeLaws.{parent-is, parent-none}
 use Rattle.formed.proofs.Promises.{WellFormed}
-use Rattle.expr.specs.Visits.{together, sum, treeOf}
+use Rattle.report.specs.Visits.{together, sum, treeOf}
 use Rattle.expr.proofs.Nodes.{kid-inside, kid-once, depth-some}
 
 -- ---- lists one after the other

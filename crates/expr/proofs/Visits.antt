@@ -29,7 +29,7 @@ use Rattle.words.specs.Notes.{nodes, noteOf, codeNoted, isSeen}
 use Rattle.words.proofs.Noting.{seen-noted}
 use Rattle.expr.specs.State.{Env, State, Ans, cont, _then_, refuse}
 use Rattle.expr.specs.Rules.{recorded, sealed, exprRule}
-use Rattle.expr.specs.Visits.{sum, treeOf}
+use Rattle.report.specs.Visits.{sum, treeOf}
 use Rattle.expr.specs.declared.answer.Outcome.{Outcome}
 use Rattle.expr.specs.declared.answer.Step.{Step}
 use Rattle.expr.specs.declared.answer.Step.the-variants.{Done, Refused}
@@ -180,3 +180,7 @@ module _ (e : Env) (f : WellFormed (e .p) (e .c)) (y : ℕ) where
         below =
             by-le y id (λ u. omega (arith, u, l, limited (e .c) (f .headed .limits) .expressions))
             (λ u. absurd (omega (arith, i, tree-below (e .p) (e .c) f maxDepth y id l u)))
+
+-- the notes are as many as before
+pub notes-long : (e : Env) → WellFormed (e .p) (e .c) → (left id want vars : ℕ) (s : State) → id < e .c .expressions → length (s .notes) ≡ nodes → length (exprRule left e id want vars s .st .notes) ≡ nodes
+notes-long e f left id want vars s l x = expr-visits e f 0 left .holds id want vars s l .room (record { node = omega arith; long = x }) .long

@@ -20,7 +20,7 @@ use Rattle.unionfind.specs.declared.codes.Kind.{Kind}
 use Rattle.unionfind.specs.declared.codes.Kind.the-variants.{Var}
 use Rattle.expr.specs.State.{Env, State, Ans, Typing, outcome, done, refuseWith, _then_, contWith, _gives_, resolving, freshType, unifyStep}
 use Rattle.expr.specs.Rules.{Run, recorded, sealed, letType, operandType}
-use Rattle.expr.specs.Visits.{sum}
+use Rattle.report.specs.Visits.{sum}
 use Rattle.expr.specs.declared.answer.Outcome.{Outcome}
 use Rattle.expr.specs.declared.answer.Step.{Step}
 use Rattle.expr.specs.declared.answer.Step.the-variants.{Done, Refused}

@@ -26,7 +26,7 @@ use Rattle.arms.specs.declared.answer.Subject.{Subject}
 use Rattle.arms.specs.declared.answer.Subject.the-variants as subject
 use Rattle.expr.specs.State.{Env, State, Ans, withNotes, refuse}
 use Rattle.expr.specs.Rules.{Run, recorded, letRule, stmtRule, stmtsRule, lastRule, blockRule, rightRule, operatorRule, guardRule, bodyRule, armRule, armsRule, casesRule, subjectRule, matchRule, fieldsRule, recordRule, fieldRule, returnedRule, returnRule, kindRule, nodeRule}
-use Rattle.expr.specs.Visits.{sum}
+use Rattle.report.specs.Visits.{sum}
 use Rattle.expr.proofs.Numbers.{plan-late, arm-late, record-late, accessed-late}
 use Rattle.expr.proofs.Nodes.{operands-at, none-stated, stated-at, withKind}
 use Rattle.expr.proofs.WalkLeaves.{literal-holds, slot-holds, first-holds, result-holds, none, accessed-holds}

@@ -2,4 +2,3 @@ pub mod State
 pub mod Rules
 pub mod Ready
 pub mod Root
-pub mod Visits

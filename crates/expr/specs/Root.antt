@@ -1,5 +1,6 @@
 -- A root: "Root first: 35 over parameters and return type, then 34." Then its body, against its return type; and what a report writes.
-use Prim.Native.Nat.{ℕ, _*_, _≤_}
+use Prim.Native.Nat.{ℕ, _*_, _<_, _≤_}
+use mathlib.Core.Path.{_≡_}
 use mathlib.Core.Bool.{_||_}
 use mathlib.Core.List.{List, [], _∷_}
 use lib.Dec.{ltb}
@@ -8,6 +9,8 @@ use Rattle.laws.specs.Choice.{pick, letting}
 use Rattle.laws.specs.Lists.{bit, gather}
 use Rattle.pack.specs.Rows.{rootRow}
 use Rattle.pack.specs.declared.counts.Counts.{Counts}
+use Rattle.pack.specs.declared.answer.Reading.the-variants.{Pack}
+use Rattle.formed.specs.Formed.{formedOf}
 use Rattle.trees.specs.Nodes.{maxDepth}
 use Rattle.unionfind.specs.Cells.{capacity}
 use Rattle.unionfind.specs.Answers.{selves}
@@ -77,10 +80,40 @@ rootAnswer p c root = rootAnswerIn p c (sameOf p c) (marksOf p c) root
 abbrev pub rootArea : List ℕ → Counts → ℕ → List ℕ → List ℕ
 rootArea p c root area = rootAreaIn p c (sameOf p c) (marksOf p c) root area
 
+-- ---- the tables that a root is lent
+
+-- no variable in use, no node seen
+pub record Blank (xs ws : List ℕ) : Type 0 where
+  pub cells : xs ≡ selves 0 capacity
+  pub notes : ws ≡ replicate nodes 0
+
+-- after a report they are as they were, after a refusal as the rule left them
+abbrev pub cellsAfter : Step → State → List ℕ
+cellsAfter (Done o) s = selves 0 capacity
+cellsAfter (Refused f) s = s .cells
+
+abbrev pub notesAfter : Step → State → List ℕ
+notesAfter (Done o) s = replicate nodes 0
+notesAfter (Refused f) s = s .notes
+
+unfoldable pub rootCellsIn : List ℕ → Counts → List ℕ → List ℕ → ℕ → List ℕ
+rootCellsIn p c same marks root = cellsAfter (rootRule p c same marks root .step) (rootRule p c same marks root .st)
+
+unfoldable pub rootNotesIn : List ℕ → Counts → List ℕ → List ℕ → ℕ → List ℕ
+rootNotesIn p c same marks root = notesAfter (rootRule p c same marks root .step) (rootRule p c same marks root .st)
+
+abbrev pub rootCells : List ℕ → Counts → ℕ → List ℕ
+rootCells p c root = rootCellsIn p c (sameOf p c) (marksOf p c) root
+
+abbrev pub rootNotes : List ℕ → Counts → ℕ → List ℕ
+rootNotes p c root = rootNotesIn p c (sameOf p c) (marksOf p c) root
+
 -- ---- the contract
 
--- the table is that of the pack, whose rows refer to smaller ones only, and the area is long enough
-pub record Checks (p : List ℕ) (c : Counts) (same marks area : List ℕ) : Type 0 where
+-- the pack is well-formed and has this root, the table is that of the pack, whose rows refer to smaller ones only, and the area is long enough
+pub record Checks (p : List ℕ) (c : Counts) (same marks : List ℕ) (root : ℕ) (area : List ℕ) : Type 0 where
+  pub formed : formedOf p ≡ Pack c
+  pub inside : root < c .roots
   pub table : Numbers p c same marks
   pub small : PartsSmaller p c
   pub room : c .types ≤ rows

@@ -4,7 +4,7 @@ ghost use mathlib.Core.Bool.{_||_};
 ghost use Rattle.pack.specs.Rows.{rootRow};
 ghost use Rattle.names.specs.Index.{Indexed};
 ghost use Rattle.members.specs.Marks.{isMarked, anyFieldMarked};
-ghost use Rattle.expr.specs.Root.{rootAnswer, rootArea, Checks};
+ghost use Rattle.expr.specs.Root.{rootAnswer, rootArea, rootCells, rootNotes, Blank, Checks};
 use crate::answer::Checked;
 use crate::answer::Step;
 use crate::rules::expr;
@@ -16,13 +16,13 @@ use names::NameIndex;
 use pack::Counts;
 use pack::RootRow;
 use pack::root_row;
+use report::write_root;
 use slots::Slots;
 use slots::open_pairs;
 use structure::TypeTable;
 use structure::type_code;
 use unionfind::UnionFind;
 use words::Notes;
-use words::write_words;
 
 // How deep a well-formed pack goes.
 const DEPTH: u32 = 64;
@@ -47,26 +47,28 @@ fn root_marked(pack: &[u8], c: Counts, marks: &[u32; TypeTable::CAPACITY], row: 
     )
 }
 
-// Root `root` of a well-formed pack, whose types are numbered by `number_rows`, and its names put in order by `fill_names`.
+// Root `root` of a well-formed pack, whose types are numbered by `number_rows` and whose names are put in order by `fill_names`. Cells and notes
+// are lent too, so that a program asks for them once and a root costs what it has.
 pub fn check_root(
     pack: &[u8],
     c: Counts,
     names: &[u16; NameIndex::CAPACITY],
     same: &[u32; TypeTable::CAPACITY],
     marks: &[u32; TypeTable::CAPACITY],
+    cells: &mut [u32; UnionFind::CAPACITY],
+    notes: &mut [u32; Notes::CAPACITY],
     root: u32,
     area: &mut [u8],
 ) -> Checked
-    requires { ⌜ Checks (now pack) c (now same) (now marks) (now area) × Indexed (now pack) c (now names) ⌝ }
-    ensures { λ r. ⌜ (r ≡ rootAnswer (now (pack .entry)) c root) × (now (area .exit) ≡ rootArea (now (pack .entry)) c root (now (area .entry))) ⌝ }
+    requires { ⌜ Checks (now pack) c (now same) (now marks) root (now area) × Indexed (now pack) c (now names) × Blank (now cells) (now notes) ⌝ }
+    ensures { λ r. ⌜ ((r ≡ rootAnswer (now (pack .entry)) c root) × (now (area .exit) ≡ rootArea (now (pack .entry)) c root (now (area .entry))))
+        × ((now (cells .exit) ≡ rootCells (now (pack .entry)) c root) × (now (notes .exit) ≡ rootNotes (now (pack .entry)) c root)) ⌝ }
 {
     let row = root_row(pack, c, root);
     if root_marked(pack, c, marks, row) {
         return refused_at(35, row.body);
     }
-    let mut cells = UnionFind::empty().cells;
     let mut slots = Slots::empty().slots;
-    let mut notes = Notes::empty().notes;
     let ret = type_code(pack, c, same, row.returns);
     if open_pairs(pack, c, same, &mut slots, row.list) {
         match expr(
@@ -76,9 +78,9 @@ pub fn check_root(
             same,
             marks,
             ret,
-            &mut cells,
+            cells,
             &mut slots,
-            &mut notes,
+            notes,
             DEPTH,
             row.body,
             ret,
@@ -86,7 +88,7 @@ pub fn check_root(
         ) {
             Step::Refused(f) => Checked::Refused(f),
             Step::Done(o) => {
-                write_words(&mut cells, o.vars, &notes, c.expressions, area);
+                write_root(pack, c, cells, o.vars, notes, area, DEPTH, row.body);
                 Checked::Report
             }
         }

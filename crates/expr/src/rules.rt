@@ -45,6 +45,7 @@ use pack::expression_row;
 use pack::list_item;
 use pack::list_len;
 use records::record_fault;
+use report::Node;
 use slots::Slots;
 use slots::close_lets;
 use slots::open_slot;
@@ -54,31 +55,6 @@ use unify::resolve_type;
 use unionfind::Kind;
 use unionfind::UnionFind;
 use words::Notes;
-
-// The kinds of expression rows.
-pub struct Node {
-    pub kind: u32,
-}
-
-impl Node {
-    pub const LITERAL: u32 = 0;
-
-    pub const SLOT: u32 = 1;
-
-    pub const BLOCK: u32 = 2;
-
-    pub const LET: u32 = 3;
-
-    pub const MATCH: u32 = 4;
-
-    pub const OPERATOR: u32 = 5;
-
-    pub const RECORD: u32 = 6;
-
-    pub const FIELD: u32 = 7;
-
-    pub const RETURN: u32 = 8;
-}
 
 // A let: its type, its value, then its slot opens.
 pub fn let_stmt(

@@ -18,6 +18,7 @@ use lib.Dec.{leb, ltb, eqb}
 use borrow.Author.Tests.{leb-false, lt-ltb, le-ltb, lt-leb, eq-eqb, ne-eqb}
 use Rattle.laws.specs.Choice.{pick}
 use Rattle.laws.proofs.Choice.{yes, no, by-test, by-eq}
+use Rattle.laws.proofs.Members.{by-le}
 use Rattle.laws.specs.declared.refusal.Refusal.{Refusal}
 use Rattle.unionfind.specs.Codes.{numbers, number, isVar, anyTag, tagFor, ownCode}
 use Rattle.unionfind.specs.Cells.{capacity, isLink, trail, found, setAll, compressed, among, Chain, stop, step, LoopFree, Knows, Live}
@@ -222,6 +223,29 @@ empties {xs = xs} f = record {
     unused = λ v a b. f .own v b;
   };
 }
+
+pub selves-empty : Empties 0 (selves 0 capacity)
+selves-empty = empties (record { size = selves-length 0 capacity; own = λ k h. rw zero-add at (selves-at 0 capacity k h) })
+
+-- the cells below i map to themselves, and those from n on
+pub record Unsetting (n : ℕ) (xs : List ℕ) (i : ℕ) : Type 0 where
+  pub room : n ≤ capacity
+  pub done : Filled xs i
+  pub rest : (k : ℕ) → n ≤ k → k < capacity → getD xs k 0 ≡ ownCode anyTag k
+
+pub unset-none : {n : ℕ} {xs : List ℕ} → Live n xs → Unsetting n xs 0
+unset-none l = record { room = l .room; done = record { size = l .loopfree .size; own = λ k h. absurd (not-suc-le-zero h) }; rest = l .unused }
+
+pub unset-more : {n : ℕ} {xs : List ℕ} {i x : ℕ} → Unsetting n xs i → i < n → x ≡ ownCode anyTag i → Unsetting n (set xs i x) (i + 1)
+unset-more {xs = xs} {i = i} {x = x} u h e = record {
+  room = u .room;
+  done = filled-more (u .done) (omega (arith, h, u .room)) e;
+  rest = λ k l m. getD-set-other xs i k x 0 (λ q. omega (arith, h, l, q)) ∙ u .rest k l m;
+}
+
+pub unset-all : {n : ℕ} {xs : List ℕ} {i : ℕ} → Unsetting n xs i → n ≤ i → xs ≡ selves 0 capacity
+unset-all {n = n} {xs = xs} u h =
+    empties (record { size = u .done .size; own = λ k l. by-le (suc k) n (λ m. u .done .own k (omega (arith, h, m))) (λ m. u .rest k (omega (arith, m)) l) }) .cells
 
 -- ---- a set that is never refused
 

@@ -1,5 +1,7 @@
 // The cells, and the state with no variable in use.
-ghost use Rattle.unionfind.specs.Answers.{Empties};
+ghost use mathlib.Core.Path.{_≡_};
+ghost use Rattle.unionfind.specs.Cells.{capacity, Live};
+ghost use Rattle.unionfind.specs.Answers.{selves, Empties};
 use crate::codes::Kind;
 use crate::codes::own_code;
 
@@ -25,5 +27,17 @@ impl UnionFind {
             cells: cells,
             len: 0,
         }
+    }
+}
+
+// The n variables in use unset again: the cells are as `empty` gives them.
+pub fn unset_cells(cells: &mut [u32; UnionFind::CAPACITY], n: u32)
+    requires { ⌜ Live n (now cells) ⌝ }
+    ensures { λ _. ⌜ now (cells .exit) ≡ selves 0 capacity ⌝ }
+{
+    let mut i: u32 = 0;
+    while i < n {
+        cells[i as usize] = own_code(Kind::Var, i);
+        i += 1;
     }
 }

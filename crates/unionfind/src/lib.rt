@@ -9,6 +9,7 @@ mod store;
 pub use answer::Answer;
 pub use answer::Made;
 pub use cells::UnionFind;
+pub use cells::unset_cells;
 pub use chain::find;
 pub use chain::find_ref;
 pub use codes::Kind;

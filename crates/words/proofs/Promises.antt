@@ -3,16 +3,17 @@
 --     word-there      the four bytes of a node's word, at 4 times its id
 --     word-read       which, read as one number, are the word
 --     word-else       every other byte is as it was
--- And of the words: two results that meet one contract are equal (written-one, encode-one).
+--     puts-same       words of the same nodes, in another order
+-- And of the words: two results that meet one contract are equal (encode-one).
 -- Assumes nothing.
-use Prim.Native.Nat.{ℕ, zero, suc, _+_, _-_, _*_, _/_, _^_, _<_, _≤_}
+use Prim.Native.Nat.{ℕ, zero, suc, _+_, _-_, _*_, _/_, _%_, _^_, _<_, _≤_}
 use mathlib.Core.Path.{_≡_, refl, sym, subst, _∙_}
 use mathlib.Core.Logic.{_⊎_, ⊎-elim}
 use mathlib.Core.Bool.{Bool, true, false}
 use mathlib.Core.List.{List, [], _∷_}
 use native.Mathlib.Omega.{arith}
 use lib.ListN.{length, getD, set, length-set}
-use lib.Seq.{getD-set-same, getD-set-other}
+use lib.Seq.{getD-set-same, getD-set-other, ext-getD}
 use Rattle.laws.specs.Bounded.{get}
 use Rattle.laws.specs.Lists.{count as times, In}
 use Rattle.laws.proofs.Choice.{yes, no, by-test, fails}
@@ -21,7 +22,7 @@ use Rattle.laws.proofs.Members.{in-self, by-le}
 use Rattle.pack.specs.Read.{byteAt, wordAt, row32}
 use Rattle.unify.specs.Unify.{resolveOf}
 use Rattle.words.specs.Notes.{nodes, codeNoted, callNoted, divergesNoted, isSeen}
-use Rattle.words.specs.Words.{encode, wordByte, putWord, wordOf, seenAt, seenIds, putWords, wordsArea, WordsWritten}
+use Rattle.words.specs.Words.{encode, wordByte, putWord, wordOf, seenAt, seenIds, putWords, wordsArea}
 use Rattle.words.proofs.Fields.{word-small, bytes-word}
 use Rattle.words.proofs.Writing.{put-length}
 
@@ -92,6 +93,18 @@ module _ (word : ℕ → ℕ) where
       puts-else ids (putWord area k (word k)) (4 * id + j) (λ m. absurd (omega (arith, subst (λ (x : ℕ). In x ids) f m)))
       ∙ rw (← e) (byte-there area id (word id) j h l))
 
+  -- nodes in another order, and some twice
+  pub puts-same : (ids others area : List ℕ) → ((y : ℕ) → In y ids → In y others) → ((y : ℕ) → In y others → In y ids) → ((y : ℕ) → In y ids → 4 * y + 3 < length area)
+      → putWords word ids area ≡ putWords word others area
+  puts-same ids others area there back room =
+      ext-getD 0 (putWords word ids area) (putWords word others area) (puts-length ids area ∙ sym (puts-length others area))
+      (λ b h.
+      by-le 1 (times (b / 4) ids)
+      (λ i.
+      let e : 4 * (b / 4) + b % 4 ≡ b = omega arith in
+      rw e at (puts-there ids area (b / 4) (b % 4) (omega arith) (room (b / 4) i) i ∙ sym (puts-there others area (b / 4) (b % 4) (omega arith) (room (b / 4) i) (there (b / 4) i))))
+      (λ o. puts-else ids area b (λ i. omega (arith, o, i)) ∙ sym (puts-else others area b (λ i. omega (arith, o, back (b / 4) i)))))
+
 -- ---- a report
 
 note-small : (cells : List ℕ) (note : ℕ) → wordOf cells note < 2 ^ 32
@@ -103,11 +116,11 @@ module _ (cells notes : List ℕ) (count : ℕ) (area : List ℕ) where
   unfolding wordsArea
   words-length = puts-length (λ id. wordOf cells (get nodes notes id)) (seenIds notes count) area
 
-  seen-in : (id : ℕ) → id < count → isSeen (get nodes notes id) ≡ true → In id (seenIds notes count)
+  pub seen-in : (id : ℕ) → id < count → isSeen (get nodes notes id) ≡ true → In id (seenIds notes count)
   unfolding seenIds
   seen-in id h t = in-gather id (seenAt notes) 0 id count (omega arith) (omega arith) (subst (λ (l : List ℕ). In id l) (yes (isSeen (get nodes notes id)) (id ∷ []) [] t refl) (in-self id []))
 
-  in-seen : (id : ℕ) → In id (seenIds notes count) → (id < count) × (isSeen (get nodes notes id) ≡ true)
+  pub in-seen : (id : ℕ) → In id (seenIds notes count) → (id < count) × (isSeen (get nodes notes id) ≡ true)
   unfolding seenIds
   in-seen id m =
       let r = gather-in id (seenAt notes) count 0 m in
@@ -139,10 +152,6 @@ module _ (cells notes : List ℕ) (count : ℕ) (area : List ℕ) where
   word-else b n =
       puts-else (λ id. wordOf cells (get nodes notes id)) (seenIds notes count) area b
       (λ m. let r = in-seen (b / 4) m in fails (sym (r .1) ∙ n (r .0)))
-
-pub written-one : {n : ℕ} {xs notes : List ℕ} {count : ℕ} {before ys zs p q : List ℕ}
-    → WordsWritten n xs notes count before ys p → WordsWritten n xs notes count before zs q → (p ≡ q) × (ys ≡ zs)
-written-one f g = (f .area ∙ sym (g .area), f .cells ∙ sym (g .cells))
 
 pub encode-one : (d : Bool) (call x p q : ℕ) → p ≡ encode d call x → q ≡ encode d call x → p ≡ q
 encode-one d call x p q e f = e ∙ sym f

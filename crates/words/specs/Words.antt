@@ -50,17 +50,9 @@ unfoldable pub putWords : (ℕ → ℕ) → List ℕ → List ℕ → List ℕ
 putWords word [] area = area
 putWords word (id ∷ ids) area = putWords word ids (putWord area id (word id))
 
--- each node's type resolved, one after the other
-unfoldable pub settleNodes : List ℕ → List ℕ → List ℕ → List ℕ
-settleNodes notes [] cells = cells
-settleNodes notes (id ∷ ids) cells = settleNodes notes ids (settled cells (codeNoted (get nodes notes id)))
-
--- the area after a report, and the cells
+-- the area after a report
 unfoldable pub wordsArea : List ℕ → List ℕ → ℕ → List ℕ → List ℕ
 wordsArea cells notes count area = putWords (λ id. wordOf cells (get nodes notes id)) (seenIds notes count) area
-
-unfoldable pub wordsCells : List ℕ → List ℕ → ℕ → List ℕ
-wordsCells cells notes count = settleNodes notes (seenIds notes count) cells
 
 -- ---- what the functions need and promise
 
@@ -73,17 +65,5 @@ pub record Worded (n : ℕ) (xs : List ℕ) (note r : ℕ) (ys : List ℕ) : Typ
 pub record NodeWritten (n : ℕ) (xs : List ℕ) (note id : ℕ) (before ys after : List ℕ) : Type 0 where
   pub area : after ≡ pick (isSeen note) (putWord before id (wordOf xs note)) before
   pub cells : ys ≡ pick (isSeen note) (settled xs (codeNoted note)) xs
-  pub live : Live n ys
-  pub kept : Kept xs ys
-
--- n variables in use, which each note knows, and an area that has room for the words of all nodes below count
-pub record Ready (n : ℕ) (cells notes : List ℕ) (count : ℕ) (area : List ℕ) : Type 0 where
-  pub live : Live n cells
-  pub known : (i : ℕ) → Knows n (codeNoted (get nodes notes i))
-  pub long : 4 * count ≤ length area
-
-pub record WordsWritten (n : ℕ) (xs notes : List ℕ) (count : ℕ) (before ys after : List ℕ) : Type 0 where
-  pub area : after ≡ wordsArea xs notes count before
-  pub cells : ys ≡ wordsCells xs notes count
   pub live : Live n ys
   pub kept : Kept xs ys

@@ -4,7 +4,7 @@ mod nodes;
 mod notes;
 mod word;
 
-pub use nodes::write_words;
+pub use nodes::write_node;
 pub use notes::Notes;
 pub use notes::code_noted;
 pub use notes::note_at;

@@ -17,7 +17,7 @@ cast-check-numbered c =
 check-numbered-requires : tie.Need-check-numbered-requires
 check-numbered-requires c κs =
     let ready = root-ready _ _ _ _ (sym (c .before .before .before .before .ready-to-check .ensures) ∙ c .before .before .ready .given .1) in
-    (ready .0, ready .2)
+    (ready .0, ready .1, ready .2)
 
 returns : tie.Need-returns
 unfolding rootChecked

@@ -1,0 +1,3 @@
+pub mod KidLaws
+pub mod Writing
+pub mod Whole

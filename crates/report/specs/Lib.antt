@@ -1,0 +1,3 @@
+pub mod Kids
+pub mod Visits
+pub mod Report
