@@ -18,12 +18,11 @@ use borrow.Author.Tests.{eqb-true, eqb-false, eq-eqb, ne-eqb, leb-true, lt-ltb, 
 use Rattle.laws.specs.Choice.{pick}
 use Rattle.laws.specs.First.{all}
 use Rattle.laws.specs.Lists.{bit}
-use Rattle.laws.specs.Bounded.{get}
+use Rattle.laws.specs.Bounded.{get, put}
 use Rattle.laws.proofs.First.{all-true, all-each}
 use Rattle.laws.proofs.Tests.{same-test, all-same, or-right}
-use Rattle.laws.proofs.Bounded.{get-in}
+use Rattle.laws.proofs.Bounded.{get-in, get-out, put-in, put-out, by-bound}
 use Rattle.laws.proofs.Choice.{yes, no, by-test, by-eq, and-both, fails}
-use Rattle.laws.specs.Bounded.{Reads}
 use Rattle.pack.specs.Rows.{typeRow}
 use Rattle.pack.specs.Lists.{listWord}
 use Rattle.pack.specs.Named.{partsOf}
@@ -57,7 +56,7 @@ last-is : {k i : ℕ} → k ≤ i → i ≤ k → k ≡ i
 last-is a b = omega arith
 
 -- a number and a bit as one
-bit-small : (b : Bool) → bit b < 2
+pub bit-small : (b : Bool) → bit b < 2
 bit-small true = omega arith
 bit-small false = omega arith
 
@@ -116,8 +115,8 @@ module _ (p : List ℕ) (c : Counts) where
     pub restMarks : Empty ms i
     pub read : Read p c look words
 
-  users-more : {i s : ℕ} {users : List ℕ} → Users i users → s < slots → s ≡ slotAt p c i → Users (i + 1) (set users s (i + 1))
-  users-more {i = i} {s = s} {users = users} u h e = record {
+  users-set : {i s : ℕ} {users : List ℕ} → Users i users → s < slots → s ≡ slotAt p c i → Users (i + 1) (set users s (i + 1))
+  users-set {i = i} {s = s} {users = users} u h e = record {
     size = length-set users s (i + 1) ∙ u .size;
     row = λ t n.
         by-eq t s
@@ -131,6 +130,15 @@ module _ (p : List ℕ) (c : Counts) where
     where
       same : getD (set users s (i + 1)) s 0 ≡ i + 1
       same = getD-set-same users s (i + 1) 0 (omega (arith, u .size))
+
+  users-kept : {i : ℕ} {users : List ℕ} → Users i users → Users (i + 1) users
+  users-kept u = record { size = u .size; row = λ t n. let h = u .row t n in omega arith; slot = u .slot }
+
+  users-more : {i s : ℕ} {users : List ℕ} → Users i users → s ≡ slotAt p c i → Users (i + 1) (put slots users s (i + 1))
+  users-more {i = i} {s = s} {users = users} u e =
+      by-bound slots users s
+      (λ h. rw (← put-in slots users s (i + 1) h) (users-set u h e))
+      (λ h. rw (← put-out slots users s (i + 1) h) (users-kept u))
 
   -- ---- row i, where each row refers only to smaller ones
 
@@ -447,7 +455,7 @@ module _ (p : List ℕ) (c : Counts) where
     -- ---- what is found
 
     module _ (read : Read p c look words) (fitted : fit ≡ true → (k : ℕ) → k ≤ i → fits p c (slotAt p c k) ≡ true) (shape : Shape cells members i)
-        {users : List ℕ} (u : Users i users) {s sort : ℕ} (small-slot : s < slots) (slot-is : s ≡ slotAt p c i) (sort-is : sort ≡ sortAt i)
+        {users : List ℕ} (u : Users i users) {s sort : ℕ} (slot-is : s ≡ slotAt p c i) (sort-is : sort ≡ sortAt i)
         {l : ListFacts} {r : Found} (told : FactsTold p c marks look lists helds fit i s sort (r .row) l)
         {roots′ cells′ tests′ members′ : List ℕ} (grown : Grown roots cells tests members i sort r roots′ cells′ tests′ members′) where
       pub record Outcome : Type 0 where
@@ -480,6 +488,7 @@ module _ (p : List ℕ) (c : Counts) where
 
       pub outcome : Finds p c same look users roots cells tests members fit i s sort r → Outcome
       outcome (used k e says) =
+          let small-slot : s < slots = by-bound slots users s (λ h. h) (λ h. absurd (omega (arith, e, get-out slots users s h))) in
           let g : getD users s 0 ≡ k + 1 = get-in slots users s small-slot ∙ e in
           let n : getD users s 0 ≡ 0 → ⊥ = λ q. omega (arith, q, g) in
           let y : getD users s 0 - 1 ≡ k = omega (arith, g) in
@@ -621,17 +630,17 @@ module _ (p : List ℕ) (c : Counts) where
       (kept : ListKept p c ss ms look us ls hs roots cells tests members fit i l us′ ls′ hs′ roots′ cells′ tests′ members′)
       {ss′ ms′ ks′ kh kn : List ℕ} (row : RowKept p ss ms ks i l ss′ ms′ ks′ kh kn) {look′ : List ℕ} {x : ℕ} (noted : Noted look look′ i x) (coding : x ≡ codeAt ss′ ms′ i) where
     slot-i : kept .slot ≡ slotAt p c i
-    slot-i = kept .read .same
+    slot-i = kept .read
 
     sort-i : kept .sort ≡ sortAt i
     sort-i = kept .sorted ∙ ap (sortOf p c) slot-i
 
     pub built-more : Built fit (i + 1) us′ ls′ hs′ ks′ ss′ ms′ look′ roots′ cells′ tests′ members′
     built-more = record {
-      users = rw (kept .usersSet) (users-more (b .users) (kept .read .small) slot-i);
+      users = rw (kept .usersSet) (users-more (b .users) slot-i);
       right = λ small.
           let done = b .right small in
-          let o = outcome small inside room done (b .read) fitted shape (b .users) (kept .read .small) slot-i sort-i (kept .told) (kept .grown) (kept .finds) in
+          let o = outcome small inside room done (b .read) fitted shape (b .users) slot-i sort-i (kept .told) (kept .grown) (kept .finds) in
           let list = o .right in
           let k = key-right small inside room done list (row .keyed) in
           let same′ : Filled (rowNumber p c) ss′ (i + 1) = rw (row .sameSet) (filled-more (done .same) room (number-right small inside room done k (row .hit) (row .numbered))) in

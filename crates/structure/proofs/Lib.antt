@@ -15,3 +15,4 @@ pub mod Views
 pub mod Building
 pub mod TypeCodes
 pub mod Promises
+mod Counting

@@ -13,7 +13,7 @@ use Rattle.laws.specs.Bounded.{Reads}
 use Rattle.laws.proofs.Bounded.{get-in}
 use Rattle.structure.specs.Structure.{rows}
 use Rattle.structure.specs.Table.{entry, hasKey, Hit}
-use Rattle.structure.specs.Buckets.{buckets, bucketOf}
+use Rattle.structure.specs.Buckets.{buckets, bucketOf, headAt}
 use Rattle.structure.specs.Tree.{cellsLen, cellAt, placeOf, ownOf, memberKey, Step, passes, turns, Leads, here, more, New, Small, Shape, Passing, Passed, Turned, Walked}
 use Rattle.structure.specs.Words.{lookAt}
 use Rattle.structure.specs.declared.tree.Stop.{Stop}
@@ -24,6 +24,10 @@ use borrow.Author.Tests.{eq-eqb}
 pub key-fork : (g x : ℕ) → g < buckets → bucketOf (memberKey g x) ≡ g
 unfolding bucketOf memberKey
 key-fork g x h = omega arith
+
+-- the head of the members of a fork
+pub member-head : (heads : List ℕ) (g x : ℕ) {r key : ℕ} → g < buckets → r ≡ getD heads g 0 → key ≡ memberKey g x → r ≡ headAt heads (bucketOf key)
+member-head heads g x l e q = e ∙ get-in buckets heads g l ∙ ap (headAt heads) (sym (key-fork g x l) ∙ ap bucketOf (sym q))
 
 -- one step more at the end
 pub leads-on : {v : ℕ → ℕ} {cells tests keys : List ℕ} {d k e l f m : ℕ} → Leads v cells tests keys d k e l → Step v cells tests keys e l f m → Leads v cells tests keys d k f m

@@ -7,7 +7,7 @@ use lib.Dec.{eqb, ltb}
 use lib.ListN.{set}
 use Rattle.laws.specs.Choice.{pick}
 use Rattle.laws.specs.Lists.{bit}
-use Rattle.laws.specs.Bounded.{get, Reads}
+use Rattle.laws.specs.Bounded.{get, put}
 use Rattle.pack.specs.Rows.{typeRow}
 use Rattle.pack.specs.declared.counts.Counts.{Counts}
 use Rattle.structure.specs.Structure.{rows}
@@ -19,14 +19,15 @@ use Rattle.structure.specs.Tree.{Says, Finding, Grown, Shape, RootsLow}
 use Rattle.structure.specs.declared.facts.ListFacts.{ListFacts}
 use Rattle.structure.specs.declared.finding.Found.{Found}
 
+-- the slots that there is room for: starts of lists are below `words`
 abbrev pub slots : ℕ
-slots = 32769
+slots = 16384
 
 -- the list of row k looks like the list at s
 abbrev pub hasList : List ℕ → Counts → List ℕ → ℕ → ℕ → Bool
 hasList p c same s k = like p c (entry same) (slotOf (typeRow p k)) s
 
--- the array of users has, for each list, one more than a row that has it, or 0
+-- the array of users has, for each list that there is room for, one more than a row that has it, or 0
 pub data Finds (p : List ℕ) (c : Counts) (same look users roots cells tests keys : List ℕ) (fit : Bool) (i s sort : ℕ) (r : Found) : Type 0 where
   used : (k : ℕ) → get slots users s ≡ k + 1 → Says r k 0 0 0 0 → Finds p c same look users roots cells tests keys fit i s sort r
   walked : fit ≡ true → Finding p look roots cells tests keys i s sort r → Finds p c same look users roots cells tests keys fit i s sort r
@@ -47,14 +48,14 @@ pub record FactsTold (p : List ℕ) (c : Counts) (marks look lists helds : List 
 pub record ListKept (p : List ℕ) (c : Counts) (same marks look users lists helds roots cells tests keys : List ℕ) (fit : Bool) (i : ℕ) (l : ListFacts)
     (users′ lists′ helds′ roots′ cells′ tests′ keys′ : List ℕ) : Type 0 where
   pub slot : ℕ
-  pub read : Reads slot (slotOf (typeRow p i)) slots
+  pub read : slot ≡ slotOf (typeRow p i)
   pub sort : ℕ
   pub sorted : sort ≡ sortOf p c slot
   pub found : Found
   pub finds : Finds p c same look users roots cells tests keys fit i slot sort found
   pub told : FactsTold p c marks look lists helds fit i slot sort (found .row) l
   pub grown : Grown roots cells tests keys i sort found roots′ cells′ tests′ keys′
-  pub usersSet : users′ ≡ set users slot (i + 1)
+  pub usersSet : users′ ≡ put slots users slot (i + 1)
   pub listsSet : lists′ ≡ set lists i (l .number)
   pub heldsSet : helds′ ≡ set helds i (l .held)
 

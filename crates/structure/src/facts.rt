@@ -15,8 +15,9 @@ use crate::lists::lists_like;
 use crate::lists::words_held;
 use crate::slots::slot_at;
 use crate::table::TypeTable;
-use crate::table::entry_at;
-use crate::words::wide;
+use crate::table::byte_at;
+use crate::table::short_at;
+use crate::table::wide;
 use laws::flag;
 use pack::Counts;
 
@@ -62,8 +63,8 @@ pub fn find_row(
     cells: &[u16; TypeTable::CELLS],
     tests: &[u32; TypeTable::CAPACITY],
     keys: &[u32; TypeTable::CAPACITY],
-    heads: &[u32; TypeTable::BUCKETS],
-    nexts: &[u32; TypeTable::CAPACITY],
+    heads: &[u16; TypeTable::BUCKETS],
+    nexts: &[u16; TypeTable::CAPACITY],
     fit: bool,
     i: u32,
     s: u32,
@@ -120,21 +121,21 @@ pub fn facts_of(
     c: Counts,
     marks: &[u32; TypeTable::CAPACITY],
     look: &[u16; TypeTable::LOOKS],
-    lists: &[u32; TypeTable::CAPACITY],
-    helds: &[u32; TypeTable::CAPACITY],
+    lists: &[u16; TypeTable::CAPACITY],
+    helds: &[u8; TypeTable::CAPACITY],
     fit: bool,
     i: u32,
     s: u32,
     sort: u32,
     row: u32,
 ) -> ListFacts
-    requires { ⌜ sort < 131072 ⌝ }
-    ensures { λ r. ⌜ FactsTold (now (pack .entry)) c (now (marks .entry)) (now (look .entry)) (now (lists .entry)) (now (helds .entry)) fit i s sort row r ⌝ }
+    requires { ⌜ (i < rows) × (sort < 131072) ⌝ }
+    ensures { λ r. ⌜ FactsTold (now (pack .entry)) c (now (marks .entry)) (now (look .entry)) (now (lists .entry)) (now (helds .entry)) fit i s sort row r × (r .number < 65536) × (r .held < 256) ⌝ }
 {
     if row < i {
         ListFacts {
-            number: entry_at(lists, row),
-            held: entry_at(helds, row),
+            number: short_at(lists, row),
+            held: byte_at(helds, row),
         }
     } else {
         ListFacts {

@@ -8,13 +8,13 @@ ghost use Rattle.structure.specs.Tree.{rootAt, cellsLen, Says, Shape, Ro
 use crate::compare::compare;
 use crate::slots::slot_at;
 use crate::table::TypeTable;
+use crate::table::wide;
 use crate::tree::Stop;
 use crate::tree::cell_at;
 use crate::tree::member_key;
 use crate::tree::place_of;
 use crate::tree::walk;
 use crate::words::look_at;
-use crate::words::wide;
 
 // A row whose list looks the same, or i; and where a new list is to stand: the key under which it is a member, one more than the cell of
 // a new fork and its test, and 1 where it is the first of its sort. All are 0 where there is nothing to store.
@@ -103,8 +103,8 @@ fn find_below(
     cells: &[u16; TypeTable::CELLS],
     tests: &[u32; TypeTable::CAPACITY],
     keys: &[u32; TypeTable::CAPACITY],
-    heads: &[u32; TypeTable::BUCKETS],
-    nexts: &[u32; TypeTable::CAPACITY],
+    heads: &[u16; TypeTable::BUCKETS],
+    nexts: &[u16; TypeTable::CAPACITY],
     i: u32,
     s: u32,
     sort: u32,
@@ -129,8 +129,8 @@ pub fn find_list(
     cells: &[u16; TypeTable::CELLS],
     tests: &[u32; TypeTable::CAPACITY],
     keys: &[u32; TypeTable::CAPACITY],
-    heads: &[u32; TypeTable::BUCKETS],
-    nexts: &[u32; TypeTable::CAPACITY],
+    heads: &[u16; TypeTable::BUCKETS],
+    nexts: &[u16; TypeTable::CAPACITY],
     i: u32,
     s: u32,
     sort: u32,

@@ -81,20 +81,19 @@ pub fn list_held(pack: &[u8], c: Counts, marks: &[u32; TypeTable::CAPACITY], s: 
     false
 }
 
-// Whether one of the n words from a on names a marked type.
+// Whether one of the n words from a on names a marked type: those that do are counted, with no way out of the loop, so that several are taken
+// at a time.
 fn any_held(look: &[u16; TypeTable::LOOKS], a: usize, n: usize) -> bool
     requires { ⌜ a + n ≤ looks ⌝ }
     ensures { λ r. ⌜ r ≡ oddFrom (now (look .entry)) (λ m. a + m) n ⌝ }
 {
+    let mut odd: u16 = 0;
     let mut m: usize = 0;
     while m < n {
-        if look[a + m] % 2 == 0 {
-            m += 1;
-        } else {
-            return true;
-        }
+        odd += look[a + m] % 2;
+        m += 1;
     }
-    false
+    odd != 0
 }
 
 // The same of every second word.

@@ -4,7 +4,7 @@ ghost use mathlib.Core.Path.{_≡_};
 ghost use Prim.Native.Nat.{_<_, _≤_, _+_};
 ghost use lib.ListN.{set};
 ghost use Rattle.laws.specs.First.{all};
-ghost use Rattle.laws.specs.Bounded.{Reads};
+ghost use Rattle.laws.specs.Bounded.{put, Reads};
 ghost use Rattle.pack.specs.Rows.{typeRow};
 ghost use Rattle.structure.specs.Structure.{rows};
 ghost use Rattle.structure.specs.Lists.{slotOf, fits};
@@ -65,21 +65,28 @@ fn fits_at(pack: &[u8], c: Counts, s: u32) -> bool
     either(sort == 0, is_within(s, sort))
 }
 
+// Row i has the list at s. A slot past those that there is room for is not kept.
+fn keep_user(users: &mut [u16; TypeTable::SLOTS], i: u32, s: u32)
+    requires { ⌜ i < rows ⌝ }
+    ensures { λ _. ⌜ now (users .exit) ≡ put slots (now (users .entry)) s (i + 1) ⌝ }
+{
+    if (s as usize) < TypeTable::SLOTS {
+        users[s as usize] = (i + 1) as u16;
+    } else {}
+}
+
 // What is known of row i's list, kept for the rows after it.
 fn keep_facts(
-    users: &mut [u16; TypeTable::SLOTS],
-    lists: &mut [u32; TypeTable::CAPACITY],
-    helds: &mut [u32; TypeTable::CAPACITY],
+    lists: &mut [u16; TypeTable::CAPACITY],
+    helds: &mut [u8; TypeTable::CAPACITY],
     i: u32,
-    s: u32,
     l: ListFacts,
 )
-    requires { ⌜ (i < rows) × (s < slots) ⌝ }
-    ensures { λ _. ⌜ (now (users .exit) ≡ set (now (users .entry)) s (i + 1)) × (now (lists .exit) ≡ set (now (lists .entry)) i (l .number)) × (now (helds .exit) ≡ set (now (helds .entry)) i (l .held)) ⌝ }
+    requires { ⌜ (i < rows) × (l .number < 65536) × (l .held < 256) ⌝ }
+    ensures { λ _. ⌜ (now (lists .exit) ≡ set (now (lists .entry)) i (l .number)) × (now (helds .exit) ≡ set (now (helds .entry)) i (l .held)) ⌝ }
 {
-    users[s as usize] = (i + 1) as u16;
-    lists[i as usize] = l.number;
-    helds[i as usize] = l.held;
+    lists[i as usize] = l.number as u16;
+    helds[i as usize] = l.held as u8;
 }
 
 // The list of row i, found or put into its tree, and what is known of it.
@@ -90,14 +97,14 @@ fn keep_list(
     marks: &[u32; TypeTable::CAPACITY],
     look: &[u16; TypeTable::LOOKS],
     users: &mut [u16; TypeTable::SLOTS],
-    lists: &mut [u32; TypeTable::CAPACITY],
-    helds: &mut [u32; TypeTable::CAPACITY],
+    lists: &mut [u16; TypeTable::CAPACITY],
+    helds: &mut [u8; TypeTable::CAPACITY],
     roots: &mut [u16; TypeTable::SORTS],
     cells: &mut [u16; TypeTable::CELLS],
     tests: &mut [u32; TypeTable::CAPACITY],
     keys: &mut [u32; TypeTable::CAPACITY],
-    heads: &mut [u32; TypeTable::BUCKETS],
-    nexts: &mut [u32; TypeTable::CAPACITY],
+    heads: &mut [u16; TypeTable::BUCKETS],
+    nexts: &mut [u16; TypeTable::CAPACITY],
     fit: bool,
     i: u32,
 ) -> ListFacts
@@ -137,7 +144,8 @@ fn keep_list(
         found.row,
     );
     grow(roots, cells, tests, keys, heads, nexts, i, sort, found);
-    keep_facts(users, lists, helds, i, s, l);
+    keep_user(users, i, s);
+    keep_facts(lists, helds, i, l);
     l
 }
 
@@ -147,8 +155,8 @@ fn keep_row(
     same: &mut [u32; TypeTable::CAPACITY],
     marks: &mut [u32; TypeTable::CAPACITY],
     keys: &mut [u32; TypeTable::CAPACITY],
-    heads: &mut [u32; TypeTable::BUCKETS],
-    nexts: &mut [u32; TypeTable::CAPACITY],
+    heads: &mut [u16; TypeTable::BUCKETS],
+    nexts: &mut [u16; TypeTable::CAPACITY],
     i: u32,
     l: ListFacts,
 )
@@ -181,17 +189,17 @@ pub fn number_rows(pack: &[u8], c: Counts) -> TypeTable
     let mut word_heads = [0u16; TypeTable::BUCKETS];
     let mut word_nexts = [0u16; TypeTable::WORDS];
     let mut users = [0u16; TypeTable::SLOTS];
-    let mut lists = [0u32; TypeTable::CAPACITY];
-    let mut helds = [0u32; TypeTable::CAPACITY];
+    let mut lists = [0u16; TypeTable::CAPACITY];
+    let mut helds = [0u8; TypeTable::CAPACITY];
     let mut roots = [0u16; TypeTable::SORTS];
     let mut cells = [0u16; TypeTable::CELLS];
     let mut tests = [0u32; TypeTable::CAPACITY];
     let mut members = [0u32; TypeTable::CAPACITY];
-    let mut member_heads = [0u32; TypeTable::BUCKETS];
-    let mut member_nexts = [0u32; TypeTable::CAPACITY];
+    let mut member_heads = [0u16; TypeTable::BUCKETS];
+    let mut member_nexts = [0u16; TypeTable::CAPACITY];
     let mut keys = [0u32; TypeTable::CAPACITY];
-    let mut key_heads = [0u32; TypeTable::BUCKETS];
-    let mut key_nexts = [0u32; TypeTable::CAPACITY];
+    let mut key_heads = [0u16; TypeTable::BUCKETS];
+    let mut key_nexts = [0u16; TypeTable::CAPACITY];
     let n = rows_of(c);
     let fit = all_fit(pack, c, n);
     read_words(pack, c, &mut look, &mut word_heads, &mut word_nexts);

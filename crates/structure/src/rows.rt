@@ -7,10 +7,11 @@ ghost use Rattle.laws.specs.Bounded.{Reads};
 ghost use Rattle.pack.specs.Rows.{typeRow};
 ghost use Rattle.structure.specs.Structure.{rows, numbered, numberOf, isVarKind};
 ghost use Rattle.structure.specs.Table.{entry, firstOf, keyOf, markOf, hasKey, Hit};
-ghost use Rattle.structure.specs.Buckets.{Chained};
+ghost use Rattle.structure.specs.Buckets.{bucketOf, headAt, Chained};
 use crate::buckets::head_of;
 use crate::table::TypeTable;
 use crate::table::entry_at;
+use crate::table::wide;
 use laws::both;
 use laws::either;
 use laws::flag;
@@ -68,25 +69,40 @@ pub fn key_at(pack: &[u8], same: &[u32; TypeTable::CAPACITY], i: u32, list: u32)
     (kind * Tag::NUMBERS + first % Tag::NUMBERS) * ROWS + list % ROWS
 }
 
-// A row before i with that key, or i: the one met first on the key's chain.
+// A row before i with that key, or i: the one met first on the key's chain, whose head is `from`.
+pub fn row_from(
+    keys: &[u32; TypeTable::CAPACITY],
+    heads: &[u16; TypeTable::BUCKETS],
+    nexts: &[u16; TypeTable::CAPACITY],
+    i: u32,
+    key: u32,
+    from: u32,
+) -> u32
+    requires { ⌜ (i ≤ rows) × Chained (now keys) (now heads) (now nexts) i × (from ≡ headAt (now heads) (bucketOf key)) ⌝ }
+    ensures { λ r. ⌜ Hit (hasKey (now (keys .entry)) key) i r ⌝ }
+{
+    let mut j = from;
+    while 0 < j {
+        if keys[(j - 1) as usize] == key {
+            return j - 1;
+        }
+        j = wide(nexts[(j - 1) as usize]);
+    }
+    i
+}
+
+// A row before i with that key, or i.
 pub fn row_with_key(
     keys: &[u32; TypeTable::CAPACITY],
-    heads: &[u32; TypeTable::BUCKETS],
-    nexts: &[u32; TypeTable::CAPACITY],
+    heads: &[u16; TypeTable::BUCKETS],
+    nexts: &[u16; TypeTable::CAPACITY],
     i: u32,
     key: u32,
 ) -> u32
     requires { ⌜ (i ≤ rows) × Chained (now keys) (now heads) (now nexts) i ⌝ }
     ensures { λ r. ⌜ Hit (hasKey (now (keys .entry)) key) i r ⌝ }
 {
-    let mut j = head_of(heads, key);
-    while 0 < j {
-        if keys[(j - 1) as usize] == key {
-            return j - 1;
-        }
-        j = nexts[(j - 1) as usize];
-    }
-    i
+    row_from(keys, heads, nexts, i, key, head_of(heads, key))
 }
 
 // What an array has for the row that a search before i found, or i where it found none.

@@ -1,7 +1,7 @@
 // The type table by structure: the number of each row, and whether it holds a variable.
 ghost use mathlib.Core.Path.{_≡_};
 ghost use lib.ListN.{replicate};
-ghost use Rattle.laws.specs.Bounded.{get};
+ghost use Rattle.laws.specs.Bounded.{get, Reads};
 ghost use Rattle.structure.specs.Structure.{rows};
 ghost use Rattle.structure.specs.Table.{Clear};
 
@@ -13,8 +13,8 @@ pub struct TypeTable {
 impl TypeTable {
     pub const CAPACITY: usize = 2048;
 
-    // While it is made, each list has a slot: two for a start, and one for no list.
-    pub const SLOTS: usize = 32769;
+    // While it is made, each list has a slot, two for a start: those of a well-formed pack are below this.
+    pub const SLOTS: usize = 16384;
 
     // And rows are searched in chains; a prime.
     pub const BUCKETS: usize = 4093;
@@ -48,4 +48,37 @@ pub fn entry_at(xs: &[u32; TypeTable::CAPACITY], k: u32) -> u32
     } else {
         0
     }
+}
+
+// The same of an array of 16 bits, and of 8.
+pub fn short_at(xs: &[u16; TypeTable::CAPACITY], k: u32) -> u32
+    ensures { λ r. ⌜ Reads r (get rows (now (xs .entry)) k) 65536 ⌝ }
+{
+    if (k as usize) < TypeTable::CAPACITY {
+        wide(xs[k as usize])
+    } else {
+        0
+    }
+}
+
+pub fn byte_at(xs: &[u8; TypeTable::CAPACITY], k: u32) -> u32
+    ensures { λ r. ⌜ Reads r (get rows (now (xs .entry)) k) 256 ⌝ }
+{
+    if (k as usize) < TypeTable::CAPACITY {
+        wide_byte(xs[k as usize])
+    } else {
+        0
+    }
+}
+
+fn wide_byte(x: u8) -> u32
+    ensures { λ r. ⌜ Reads r x 256 ⌝ }
+{
+    x as u32
+}
+
+pub fn wide(x: u16) -> u32
+    ensures { λ r. ⌜ Reads r x 65536 ⌝ }
+{
+    x as u32
 }

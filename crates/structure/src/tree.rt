@@ -6,10 +6,10 @@ ghost use Rattle.laws.specs.Bounded.{Reads};
 ghost use Rattle.structure.specs.Words.{lookAt};
 ghost use Rattle.structure.specs.Buckets.{Chained};
 ghost use Rattle.structure.specs.Tree.{cellsLen, cellAt, memberKey, Small, Shape, Passing, Passed, Turned, Walked};
-use crate::rows::row_with_key;
+use crate::rows::row_from;
 use crate::table::TypeTable;
+use crate::table::wide;
 use crate::words::look_at;
-use crate::words::wide;
 
 // Where a walk ends.
 pub struct Stop {
@@ -83,8 +83,8 @@ fn turn_at(
     cells: &[u16; TypeTable::CELLS],
     tests: &[u32; TypeTable::CAPACITY],
     keys: &[u32; TypeTable::CAPACITY],
-    heads: &[u32; TypeTable::BUCKETS],
-    nexts: &[u32; TypeTable::CAPACITY],
+    heads: &[u16; TypeTable::BUCKETS],
+    nexts: &[u16; TypeTable::CAPACITY],
     i: u32,
     s: u32,
     d: u32,
@@ -98,7 +98,8 @@ fn turn_at(
     } else {
         let test = tests[(g - 1) as usize];
         let x = look_at(look, s, place_of(test));
-        row_with_key(keys, heads, nexts, i, member_key(g - 1, x))
+        let head = wide(heads[(g - 1) as usize]);
+        row_from(keys, heads, nexts, i, member_key(g - 1, x), head)
     }
 }
 
@@ -108,8 +109,8 @@ pub fn walk(
     cells: &[u16; TypeTable::CELLS],
     tests: &[u32; TypeTable::CAPACITY],
     keys: &[u32; TypeTable::CAPACITY],
-    heads: &[u32; TypeTable::BUCKETS],
-    nexts: &[u32; TypeTable::CAPACITY],
+    heads: &[u16; TypeTable::BUCKETS],
+    nexts: &[u16; TypeTable::CAPACITY],
     i: u32,
     s: u32,
     k: u32,

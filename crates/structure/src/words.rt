@@ -12,14 +12,9 @@ ghost use Rattle.structure.specs.Buckets.{buckets, headAt, Links};
 ghost use Rattle.structure.specs.Words.{looks, lookAt, wordIn, Read, Noted};
 use crate::buckets::bucket_of;
 use crate::table::TypeTable;
+use crate::table::wide;
 use pack::Counts;
 use pack::list_len;
-
-pub fn wide(x: u16) -> u32
-    ensures { λ r. ⌜ Reads r x 65536 ⌝ }
-{
-    x as u32
-}
 
 // What the list at s has at place o.
 pub fn look_at(look: &[u16; TypeTable::LOOKS], s: u32, o: u32) -> u32

@@ -2,8 +2,8 @@ use Prim.{tt}
 use mathlib.Core.Path.{_≡_, refl, sym, ap, _∙_}
 use borrow.Author.Needs.{needs}
 use native.Mathlib.Omega.{arith}
-use Rattle.structure.proofs.words.wide.Statement.{statement}
-use Rattle.structure.proofs.words.wide.Tie as tie
+use Rattle.structure.proofs.table.wide.Statement.{statement}
+use Rattle.structure.proofs.table.wide.Tie as tie
 
 returns : tie.Need-returns
 returns c = record { same = search needs; small = search needs }
