@@ -11,6 +11,7 @@ use Rattle.laws.specs.Choice.{pick, byKind}
 use Rattle.laws.specs.Lists.{count, gather}
 use Rattle.laws.proofs.Choice.{yes, no, fails, NoneOf, past-kinds}
 use Rattle.laws.proofs.Lists.{in-gather}
+use Rattle.laws.proofs.Members.{by-le}
 use Rattle.pack.specs.Lists.{listLen, listItem}
 use Rattle.pack.specs.Rows.{typeRow, definitionRow}
 use Rattle.pack.specs.Named.{itemsOf, secondsOf, fieldsOf, fieldTypesOf}
@@ -20,9 +21,10 @@ use Rattle.pack.specs.declared.rows.DefinitionRow.{DefinitionRow}
 use Rattle.type_cycle.specs.declared.skips.Listed.{Listed}
 use Rattle.type_cycle.specs.declared.skips.Listed.the-variants.{Types, Fields, Variants}
 use Rattle.type_cycle.specs.Graph.{atName, unresolved, places, rowAhead, ahead, itemTypes, listTypes, Within}
-use Rattle.type_cycle.specs.Skips.{wordIn, isVariants}
+use Rattle.type_cycle.specs.Skips.{wordIn, wordOf, isVariants, skipOf}
 use Rattle.type_cycle.specs.Search.{State, st, Pushes, Can, Visited}
-use Rattle.type_cycle.proofs.VisitLaws.{in-first, one-less, marked, enters, leaves}
+use Rattle.type_cycle.proofs.VisitLaws.{in-first, one-less, marked, enters, leaves, nothing}
+use Rattle.type_cycle.proofs.SkipLaws.{passes-all, visits-passed}
 
 -- ---- lists
 
@@ -152,6 +154,15 @@ module _ (p : List ℕ) (c : Counts) (s k : ℕ) {r w : ℕ} {b : Bool} where
 pub whole-list : (p : List ℕ) (c : Counts) (items : Listed) (s k n : ℕ) {a b : State} → n ≡ listLen p c s → k ≤ n → n ≤ k → Visited p c (gather (itemTypes p c items s) 0 k) a b → Visited p c (listTypes p c items s) a b
 unfolding listTypes
 whole-list p c items s k n e l h v = let z : k ≡ listLen p c s = omega arith in rw z at v
+
+-- a list whose first skip passes all its items
+pub all-passed : (p : List ℕ) (c : Counts) (s n skip : ℕ) (skips : List ℕ) → n ≡ listLen p c s → skip ≡ skipOf skips Types (wordOf Types s 0) → n ≤ skip → (marks order : List ℕ) (left : ℕ)
+    → Visited p c (listTypes p c Types s) (st marks skips order left) (st marks skips order left)
+unfolding gather
+all-passed p c s n skip skips e q h marks order left =
+    by-le 1 n
+    (λ some. whole-list p c Types s n n e (omega arith) (omega arith) (visits-passed p c Types s 0 (nothing (st marks skips order left)) (passes-all Types s 0 n skip skips q some (omega (arith, h)))))
+    (λ none. whole-list p c Types s 0 n e (omega arith) (omega (arith, none)) (nothing (st marks skips order left)))
 
 -- ---- counts that were lent
 

@@ -2,6 +2,7 @@
 use Prim.Native.Nat.{ℕ, _+_, _*_, _<_, _≤_}
 use mathlib.Core.Path.{_≡_}
 use mathlib.Core.Logic.{_⊎_}
+use mathlib.Core.Bool.{Bool, true}
 use mathlib.Core.List.{List, [], _∷_}
 use lib.ListN.{length, getD}
 use Rattle.laws.specs.Bounded.{put}
@@ -10,7 +11,8 @@ use Rattle.pack.specs.Rows.{typeRow}
 use Rattle.pack.specs.Named.{fieldTypesOf}
 use Rattle.pack.specs.declared.counts.Counts.{Counts}
 use Rattle.type_cycle.specs.declared.skips.Listed.{Listed}
-use Rattle.type_cycle.specs.Graph.{maxTypes, maxDefinitions, atName, unresolved, places, ahead, Path, Reach, Round, Within, RowInside, itemTypes}
+use Rattle.type_cycle.specs.declared.skips.Listed.the-variants.{Types}
+use Rattle.type_cycle.specs.Graph.{maxTypes, maxDefinitions, atName, unresolved, places, ahead, Path, Reach, Round, Within, RowInside, itemTypes, listTypes}
 use Rattle.type_cycle.specs.Skips.{stride, wordTypes, skipOf}
 
 pub record State : Type 0 where
@@ -95,3 +97,7 @@ pub record Visited (p : List ℕ) (c : Counts) (xs : List ℕ) (s t : State) : T
 -- the mark for an unresolved variable, whatever else the state is
 pub record MeetsVariable (marks after : List ℕ) : Type 0 where
   pub visited : (p : List ℕ) (c : Counts) (skips order : List ℕ) (n : ℕ) → Visited p c (unresolved ∷ []) (st marks skips order n) (st after skips order n)
+
+-- a list of types that were all visited before: visiting it again changes nothing
+pub record Settled (p : List ℕ) (c : Counts) (s : ℕ) (skips : List ℕ) (r : Bool) : Type 0 where
+  pub all : r ≡ true → (marks order : List ℕ) (n : ℕ) → Visited p c (listTypes p c Types s) (st marks skips order n) (st marks skips order n)

@@ -6,7 +6,7 @@ ghost use lib.ListN.{length};
 ghost use Rattle.pack.specs.Named.{fieldTypesOf};
 ghost use Rattle.type_cycle.specs.Graph.{atName, rowAhead, itemTypes, listTypes, Within, RowInside};
 ghost use Rattle.type_cycle.specs.Sizes.{countsIn};
-ghost use Rattle.type_cycle.specs.Search.{st, Can, MeetsVariable, Visited};
+ghost use Rattle.type_cycle.specs.Search.{st, Can, MeetsVariable, Visited, Settled};
 use crate::marks::Listing;
 use crate::marks::Marks;
 use crate::marks::push;
@@ -99,6 +99,18 @@ fn visit_list(
     m
 }
 
+// Whether all types of the list at s were visited before: then there is nothing to do.
+fn is_passed(
+    pack: &[u8],
+    c: &[u32; Sizes::CAPACITY],
+    s: u32,
+    skips: &[u16; Skips::CAPACITY],
+) -> bool
+    ensures { λ r. ⌜ Settled (now (pack .entry)) (countsIn (now (c .entry))) s (now (skips .entry)) r ⌝ }
+{
+    length_of(pack, c, s) <= (skip_at(Listed::Types, s, 0, skips) as u32)
+}
+
 // What item k names. A type is visited from here alone, so that a record in a record takes one frame of the stack.
 fn visit_item(
     pack: &[u8],
@@ -116,6 +128,9 @@ fn visit_item(
 {
     let t = item_of(pack, c, s, word_in(items, k));
     if is_variants(items) {
+        if is_passed(pack, c, t, skips) {
+            return n;
+        }
         visit_list(pack, c, Listed::Types, t, n, marks, skips, order)
     } else {
         visit(pack, c, t, n, marks, skips, order)
