@@ -65,7 +65,7 @@ pub use call::{check_root, check_types, order};
 pub use refusal::Refusal;
 pub use word::{Call, Primitive, Type, Word};
 
-/// The stack that a call of this crate needs, at most, whatever the bytes of the pack: 1 MiB. A thread made for calls can
+/// The stack that a call of this crate needs, at most, whatever the bytes of the pack: 640 KiB. A thread made for calls can
 /// be given this much and no more:
 ///
 /// ```
@@ -73,7 +73,7 @@ pub use word::{Call, Primitive, Type, Word};
 /// assert_eq!(asked?.join().unwrap().unwrap_err().number, 1);
 /// # Ok::<(), std::io::Error>(())
 /// ```
-pub const STACK: usize = 1 << 20;
+pub const STACK: usize = 640 << 10;
 
 /// A node of a root and what the report says of it.
 #[derive(Clone, Copy, Debug, PartialEq, Eq)]

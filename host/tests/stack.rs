@@ -3,6 +3,8 @@
 
 use model::Refusal;
 use rulepack::STACK;
+use std::io::Write;
+use std::process::{Command, Stdio};
 use std::sync::Arc;
 use std::thread;
 
@@ -51,4 +53,27 @@ fn the_deepest_packs() {
 #[test]
 fn records_nested_61_deep() {
     asked("61 records nested", model::deepest::nested_records(61).bytes());
+}
+
+/// The program, which reads a pack into its own stack, in a process that has 1 MiB. `rt check check_pack` makes it.
+#[test]
+fn the_program() {
+    let program = concat!(env!("CARGO_MANIFEST_DIR"), "/../target/bin/check_pack");
+    assert!(std::path::Path::new(program).exists(), "{program} is not there: `rt check check_pack` makes it");
+    for (name, pack) in model::deepest::packs() {
+        let wanted = match model::check_types(&pack) {
+            Ok(()) => "types ok".to_string(),
+            Err(r) => format!("refused {} {} {}", r.number, r.place, r.detail),
+        };
+        let mut child = Command::new("sh")
+            .args(["-c", &format!("ulimit -s 1024 && exec {program}")])
+            .stdin(Stdio::piped())
+            .stdout(Stdio::piped())
+            .spawn()
+            .expect("a shell");
+        child.stdin.take().expect("its input").write_all(&pack).expect("a pack that is read");
+        let came = child.wait_with_output().expect("an answer");
+        assert!(came.status.success(), "{name}: {}", came.status);
+        assert_eq!(String::from_utf8_lossy(&came.stdout).lines().next(), Some(wanted.as_str()), "{name}");
+    }
 }
