@@ -70,12 +70,55 @@ pub fn families() -> Vec<Family> {
             |p| round(field_lists, p),
         ),
         family(
+            "variants whose field lists are their own words",
+            AIMS,
+            &[
+                ("variants", 100, 4080, 4080),
+                ("split", 50, 4000, 2000),
+                ("low", 3, 500, 500),
+                ("high", 3, 1020, 1020),
+                ("records", 0, 1046, 1046),
+                ("down", 0, 1, 0),
+                ROUND,
+            ],
+            |p| round(own_words, p),
+        ),
+        family(
             "fields of records that hold records",
             AIMS,
             &[("definitions", 1, 512, 511), ("rows", 1, 2040, 1500), ("times", 1, 40, 1), ROUND],
             |p| round(nested_records, p),
         ),
     ]
+}
+
+/// One list of variants whose field lists start at the names of the same list, so that all of them overlap; record types and
+/// definitions over parts of it.
+fn own_words(p: &[usize]) -> Maker {
+    let [variants, split, low, high, records, down] = numbers(p);
+    let start = |i: usize| {
+        let room = if i < split { low } else { high } - 1;
+        1 + 2 * if down == 1 { room - i % room } else { 1 + i % room }
+    };
+    let mut maker = Maker::new();
+    maker.pairs(&(0..variants).map(|i| (i, start(i))).collect::<Vec<_>>());
+    for _ in 0..2 * low + 1 {
+        maker.type_row(1, 0, 0);
+    }
+    let parts = |maker: &Maker, below: usize| -> Vec<usize> {
+        let fits = |at: &usize| at + 2 * usize::from(maker.words[*at]) <= 2 * below;
+        (1..=below.min(variants)).map(|i| 2 * i).filter(fits).collect()
+    };
+    let inner = parts(&maker, split);
+    for k in 0..if inner.is_empty() { 0 } else { records } {
+        maker.type_row(5, 0, inner[k * 379 % inner.len()]);
+    }
+    let all = parts(&maker, variants);
+    maker.definition(0, 0, 0);
+    for k in 1..if all.is_empty() { 1 } else { 511 } {
+        maker.definition(k % 2, 0, all[k * 379 % all.len()]);
+    }
+    maker
 }
 
 /// A family's pack, and where the last parameter says so a definition after all others that leads to itself.
