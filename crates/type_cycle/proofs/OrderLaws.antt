@@ -7,13 +7,15 @@
 use Prim.Native.Nat.{ℕ, _+_, _-_, _<_, _≤_}
 use mathlib.Core.Path.{_≡_, refl, sym, ap, subst, _∙_}
 use mathlib.Core.Logic.{_⊎_, inl, inr, ⊎-elim}
-use mathlib.Core.Bool.{Bool, true, false, not}
+use mathlib.Core.Bool.{Bool, true, false, not, _&&_}
 use mathlib.Core.List.{List, [], _∷_}
 use native.Mathlib.Omega.{arith}
-use lib.Dec.{eqb}
+use lib.Dec.{eqb, leb, ltb}
+use borrow.Author.Tests.{leb-true, ltb-true, le-leb, lt-ltb}
 use lib.ListN.{length, getD, replicate, length-replicate}
 use Rattle.laws.specs.Lists.{bit, count, In}
-use Rattle.laws.proofs.Choice.{by-eq, by-test}
+use Rattle.laws.proofs.Choice.{by-eq, by-test, and-both, fails}
+use Rattle.laws.proofs.Members.{by-le}
 use Rattle.laws.proofs.First.{at-first, none-is}
 use Rattle.pack.specs.Named.{fieldTypesOf}
 use Rattle.pack.specs.Answer.{refuse}
@@ -95,15 +97,23 @@ list-ends {s = s} n l =
 
 -- ---- each is asked
 
--- the first i were asked, those below m: none of them leads to itself, and all that was met is what they lead to
-pub record Seeking (p : List ℕ) (c : Counts) (order : List ℕ) (m i : ℕ) (marks skips : List ℕ) : Type 0 where
+-- the test of those that are asked
+module _ (low d m : ℕ) {b : Bool} (e : b ≡ (leb low d && ltb d m)) where
+  pub in-range : b ≡ true → (low ≤ d) × (d < m)
+  in-range t = let r = and-both (leb low d) (ltb d m) (sym e ∙ t) in (leb-true low d (r .0), ltb-true d m (r .1))
+
+  pub out-range : b ≡ false → (low ≤ d) × (d < m) → ⊥
+  out-range f h = fails (sym (e ∙ rw (le-leb low d (h .0), lt-ltb d m (h .1)) refl) ∙ f)
+
+-- the first i were asked, those from low on and below m: none of them leads to itself, and all that was met is what they lead to
+pub record Seeking (p : List ℕ) (c : Counts) (order : List ℕ) (low m i : ℕ) (marks skips : List ℕ) : Type 0 where
   pub can : Can p c marks
   pub closed : Closed p c [] (st marks skips [] 0)
-  pub from : (y : ℕ) → Seen marks y → (j : ℕ) × (j < i) × (getD order j 0 < m) × Round p c (atName (getD order j 0)) y
-  pub none : (j : ℕ) → j < i → getD order j 0 < m → Round p c (atName (getD order j 0)) (atName (getD order j 0)) → ⊥
+  pub from : (y : ℕ) → Seen marks y → (j : ℕ) × (j < i) × ((low ≤ getD order j 0) × (getD order j 0 < m)) × Round p c (atName (getD order j 0)) y
+  pub none : (j : ℕ) → j < i → (low ≤ getD order j 0) × (getD order j 0 < m) → Round p c (atName (getD order j 0)) (atName (getD order j 0)) → ⊥
 
-pub seek-starts : {p : List ℕ} {c : Counts} (order : List ℕ) (m : ℕ) {marks skips : List ℕ} → Good p c → marks ≡ replicate 2561 0 → skips ≡ replicate 24576 0 → Seeking p c order m 0 marks skips
-seek-starts {p} {c} order m {marks} {skips} g e k =
+pub seek-starts : {p : List ℕ} {c : Counts} (order : List ℕ) (low m : ℕ) {marks skips : List ℕ} → Good p c → marks ≡ replicate 2561 0 → skips ≡ replicate 24576 0 → Seeking p c order low m 0 marks skips
+seek-starts {p} {c} order low m {marks} {skips} g e k =
     record {
       can = new-can g e;
       closed = new-closed p c (st marks skips [] 0) e k;
@@ -111,18 +121,18 @@ seek-starts {p} {c} order m {marks} {skips} g e k =
       none = λ j l. absurd (omega arith);
     }
 
-module _ {p : List ℕ} {c : Counts} (g : Good p c) {order : List ℕ} {n m i : ℕ} (o : Order p c order n) (few : m ≤ c .definitions) {marks skips : List ℕ} (s : Seeking p c order m i marks skips) where
+module _ {p : List ℕ} {c : Counts} (g : Good p c) {order : List ℕ} {n low m i : ℕ} (o : Order p c order n) (few : m ≤ c .definitions) {marks skips : List ℕ} (s : Seeking p c order low m i marks skips) where
   -- one that is not asked
-  pub seek-passes : m ≤ getD order i 0 → Seeking p c order m (i + 1) marks skips
+  pub seek-passes : ((low ≤ getD order i 0) × (getD order i 0 < m) → ⊥) → Seeking p c order low m (i + 1) marks skips
   seek-passes l =
       record {
         can = s .can;
         closed = s .closed;
         from = λ y h. let r = s .from y h in (r .0, omega (arith, r .1), r .2, r .3);
-        none = λ j h k. by-eq j i (λ q. absurd (omega (arith, ap (λ (z : ℕ). getD order z 0) q))) (λ q. s .none j (omega arith) k);
+        none = λ j h k. by-eq j i (λ q. absurd (l (subst (λ (z : ℕ). (low ≤ getD order z 0) × (getD order z 0 < m)) q k))) (λ q. s .none j (omega arith) k);
       }
 
-  module _ (d : ℕ) (q : d ≡ getD order i 0) (l : d < m) (inside : i < n) {left : List ℕ} {t : State} (v : Visited p c (fieldTypesOf p c d) (st marks skips left 0) t) where
+  module _ (d : ℕ) (q : d ≡ getD order i 0) (from-low : low ≤ d) (l : d < m) (inside : i < n) {left : List ℕ} {t : State} (v : Visited p c (fieldTypesOf p c d) (st marks skips left 0) t) where
     closes : Closed p c [] t × AllSeen (t .marks) (fieldTypesOf p c d)
     closes = v .closes [] (record { done = s .closed .done; skips = s .closed .skips })
 
@@ -137,7 +147,7 @@ module _ {p : List ℕ} {c : Counts} (g : Good p c) {order : List ℕ} {n m i : 
         (λ k. inr (record { next = k .0; step = rw (← fields-ahead p c d few-name) (k .1); rest = weaker (λ z e. refl) (k .2) }))
         (v .sound y h)
 
-    pub seek-goes : getD (t .marks) (atName d) 0 ≡ 0 → Seeking p c order m (i + 1) (t .marks) (t .skips)
+    pub seek-goes : getD (t .marks) (atName d) 0 ≡ 0 → Seeking p c order low m (i + 1) (t .marks) (t .skips)
     seek-goes e =
         record {
           can = record { ready = g .ready; long = v .long ∙ s .can .long };
@@ -146,7 +156,7 @@ module _ {p : List ℕ} {c : Counts} (g : Good p c) {order : List ℕ} {n m i : 
               λ y h.
               ⊎-elim
               (λ k. let r = s .from y k in (r .0, omega (arith, r .1), r .2, r .3))
-              (λ k. (i, omega arith, omega arith, rw (← q) k))
+              (λ k. (i, omega arith, (omega (arith, q), omega (arith, q)), rw (← q) k))
               (new y h);
           none =
               λ j h k r.
@@ -172,18 +182,21 @@ module _ {p : List ℕ} {c : Counts} (g : Good p c) {order : List ℕ} {n m i : 
           none = λ h. absurd (omega arith);
         }
 
-  pub seek-ends : n ≤ i → Sought p c m m
-  seek-ends l =
+  pub seek-ends : ((d : ℕ) → d < low → onCycle p c d ≡ false) → n ≤ i → Sought p c m m
+  seek-ends known l =
       record {
         most = omega arith;
         found = λ h. absurd (omega arith);
         none =
             λ h d k.
+            by-le low d
+            (λ high.
             by-test (onCycle p c d)
             (λ t.
             let r = o .listed d (omega arith) in
-            absurd (s .none (r .0) (omega (arith, r .1)) (omega (arith, r .2)) (rw (r .2) (round g d (omega arith) t))))
-            (λ t. t);
+            absurd (s .none (r .0) (omega (arith, r .1)) (omega (arith, r .2, high), omega (arith, r .2)) (rw (r .2) (round g d (omega arith) t))))
+            (λ t. t))
+            (known d);
       }
 
 -- ---- the smallest

@@ -29,6 +29,10 @@ pub record Order (p : List ℕ) (c : Counts) (order : List ℕ) (n : ℕ) : Type
   pub before : (i j : ℕ) → i < j → j < n → Round p c (atName (getD order i 0)) (atName (getD order j 0)) → Round p c (atName (getD order i 0)) (atName (getD order i 0))
 
 -- one of the first m that lies on a cycle, or m itself where none does
+-- no definition below low lies on a cycle
+pub record NoneBelow (p : List ℕ) (c : Counts) (low : ℕ) : Type 0 where
+  pub each : (d : ℕ) → d < low → onCycle p c d ≡ false
+
 pub record Sought (p : List ℕ) (c : Counts) (m r : ℕ) : Type 0 where
   pub most : r ≤ m
   pub found : r < m → onCycle p c r ≡ true

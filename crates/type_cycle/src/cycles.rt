@@ -7,13 +7,14 @@ ghost use Rattle.pack.specs.Answer.{passes};
 ghost use Rattle.pack.specs.Counts.{inLimits};
 ghost use Rattle.rows.specs.Tables.{rowsOf};
 ghost use Rattle.type_cycle.specs.Cycles.{unresolvedOf, cycleOf, typeCyclesOf};
-ghost use Rattle.type_cycle.specs.Order.{Good, Walled, Order, Sought, Smallest};
+ghost use Rattle.type_cycle.specs.Order.{Good, Walled, Order, NoneBelow, Sought, Smallest};
 use crate::marks::Listing;
 use crate::marks::Marks;
 use crate::marks::left_at;
 use crate::searches::search_fields;
 use crate::searches::search_name;
 use crate::skips::Skips;
+use laws::both;
 use pack::Counts;
 use pack::Reading;
 use pack::refused;
@@ -81,11 +82,11 @@ fn visit_all(pack: &[u8], c: Counts, order: &mut [u16; Listing::CAPACITY]) -> u3
     n
 }
 
-// A definition below m that leads to itself, or m where none does.
+// A definition below m that leads to itself, or m where none does. Those below low are known not to.
 // They are asked in the order in which a search left them: what one leads to that does not lead to itself never leads to a later one,
 // so what was met once is not met again.
-fn seek(pack: &[u8], c: Counts, m: u32, n: u32, order: &[u16; Listing::CAPACITY]) -> u32
-    requires { ⌜ Good (now pack) c × (m ≤ c .definitions) × Order (now pack) c (now order) n ⌝ }
+fn seek(pack: &[u8], c: Counts, low: u32, m: u32, n: u32, order: &[u16; Listing::CAPACITY]) -> u32
+    requires { ⌜ Good (now pack) c × (m ≤ c .definitions) × Order (now pack) c (now order) n × NoneBelow (now pack) c low ⌝ }
     ensures { λ r. ⌜ Sought (now (pack .entry)) c m r ⌝ }
 {
     let mut marks = Marks::empty();
@@ -94,7 +95,7 @@ fn seek(pack: &[u8], c: Counts, m: u32, n: u32, order: &[u16; Listing::CAPACITY]
     let mut i = 0;
     while i < n {
         let d = left_at(order, i as usize);
-        if d < m {
+        if both(low <= d, d < m) {
             search_fields(
                 pack,
                 c,
@@ -125,7 +126,7 @@ fn smallest(pack: &[u8], c: Counts, found: u32, n: u32, order: &[u16; Listing::C
     let mut high = found;
     while low < high {
         let middle = low + (high - low) / 2;
-        let d = seek(pack, c, middle + 1, n, order);
+        let d = seek(pack, c, low, middle + 1, n, order);
         if d <= middle {
             high = d;
         } else {
@@ -142,7 +143,7 @@ fn cycle(pack: &[u8], c: Counts) -> Reading
 {
     let mut order = Listing::empty();
     let n = visit_all(pack, c, &mut order.cells);
-    let found = seek(pack, c, c.definitions, n, &order.cells);
+    let found = seek(pack, c, 0, c.definitions, n, &order.cells);
     if found < c.definitions {
         let d = smallest(pack, c, found, n, &order.cells);
         refused(CYCLE, d, 0)
