@@ -65,8 +65,8 @@ pub use call::{check_root, check_types, order};
 pub use refusal::Refusal;
 pub use word::{Call, Primitive, Type, Word};
 
-/// The stack that a call of this crate needs, at most, whatever the bytes of the pack: 640 KiB. A thread made for calls can
-/// be given this much and no more:
+/// The stack that a call of this crate needs, at most: 640 KiB. It is measured on the deepest packs of every kind
+/// (tests/stack.rs), not proved. A thread made for calls can be given this much and no more:
 ///
 /// ```
 /// let asked = std::thread::Builder::new().stack_size(rulepack::STACK).spawn(|| rulepack::check_types(b"no pack"));
