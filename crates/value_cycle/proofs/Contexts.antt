@@ -52,6 +52,10 @@ pub record Marking (p : List ℕ) (c : Counts) (l : List ℕ) (v s : ℕ) : Type
   pub other : kindOf p c v ≡ 2 → ⊥
   pub list-is : s ≡ listOf p c v
 
+pub marking : {p : List ℕ} {c : Counts} (l : List ℕ) {v s k : ℕ} → InRange p c → Sized l → v < c .values
+    → getD l v 0 ≡ 0 → k ≡ kindOf p c v → (k ≡ 2 → ⊥) → s ≡ listOf p c v → Marking p c l v s
+marking l t z b u e d i = record { sized = z; small = omega (arith, t .few); unvisited = u; other = λ q. d (e ∙ q); list-is = i }
+
 -- v is marked as visited, and what it references is asked
 module _ {p : List ℕ} {c : Counts} {l : List ℕ} {v s : ℕ} (m : Marking p c l v s) where
   mark-here : Visited (set l v 1) v

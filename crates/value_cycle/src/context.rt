@@ -22,7 +22,7 @@ use tarjan::list_of;
 fn determine_uses_context(
     pack: &[u8],
     c: Counts,
-    visited: &mut [u32; Values::CAPACITY],
+    visited: &mut [u8; Values::CAPACITY],
     v: u32,
 ) -> bool
     requires { ⌜ InRange (now pack) c × Sized (now visited) × (v < c .values) ⌝ }
@@ -42,7 +42,7 @@ fn determine_uses_context(
 }
 
 // Whether one of the list at word s does.
-fn any_uses_context(pack: &[u8], c: Counts, visited: &mut [u32; Values::CAPACITY], s: u32) -> bool
+fn any_uses_context(pack: &[u8], c: Counts, visited: &mut [u8; Values::CAPACITY], s: u32) -> bool
     requires { ⌜ InRange (now pack) c × Sized (now visited) × ((w : ℕ) → In w (itemsOf (now pack) c s) → w < c .values) ⌝ }
     ensures { λ r. ⌜ SeeksIn (now (pack .entry)) c (now (visited .entry)) (itemsOf (now (pack .entry)) c s) r (now (visited .exit)) ⌝ }
 {
@@ -63,7 +63,7 @@ fn any_uses_context(pack: &[u8], c: Counts, visited: &mut [u32; Values::CAPACITY
 fn constant_uses_context(
     pack: &[u8],
     c: Counts,
-    visited: &mut [u32; Values::CAPACITY],
+    visited: &mut [u8; Values::CAPACITY],
     v: u32,
 ) -> bool
     requires { ⌜ InRange (now pack) c × Sized (now visited) × (v < c .values) ⌝ }
@@ -82,11 +82,11 @@ pub fn context_check(pack: &[u8], c: Counts) -> u32
     requires { ⌜ InRange (now pack) c ⌝ }
     ensures { λ r. ⌜ r ≡ contextAt (now (pack .entry)) c ⌝ }
 {
-    let mut visited = Values::empty();
+    let mut visited = [0u8; Values::CAPACITY];
     let n = c.values;
     let mut v = 0;
     while v < n {
-        if constant_uses_context(pack, c, &mut visited.of, v) {
+        if constant_uses_context(pack, c, &mut visited, v) {
             return v;
         }
         v += 1;

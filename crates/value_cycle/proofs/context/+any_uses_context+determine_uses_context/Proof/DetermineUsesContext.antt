@@ -10,7 +10,7 @@ use borrow.Author.Needs.{needs}
 use native.Mathlib.Omega.{arith}
 use mathlib.Core.Path.{sym, _∙_}
 use Rattle.tarjan.proofs.Leaves.{refs-values}
-use Rattle.value_cycle.proofs.Contexts.{Marking, seen, is-context, entered, less, marked-sized}
+use Rattle.value_cycle.proofs.Contexts.{marking, seen, is-context, entered, less, marked-sized}
 
 abbrev claims : ℕ → determine-uses-context-lts.Claims
 claims t = (
@@ -23,9 +23,6 @@ claims t = (
 )
 
 module _ (t : ℕ) where
-  mul-seen : determine-uses-context-lts.Need-mul-seen (claims t) (determine-uses-context-at t) determine-uses-context.Post
-  mul-seen c = omega (arith, c .before .pre .1 .2, c .before .pre .1 .0 .few)
-
   element-copy-out-seen : determine-uses-context-lts.Need-element-copy-out-seen (claims t) (determine-uses-context-at t) determine-uses-context.Post
   element-copy-out-seen c = omega (arith, c .before .pre .1 .2, c .before .pre .1 .0 .few)
 
@@ -35,19 +32,30 @@ module _ (t : ℕ) where
   returns-2 : determine-uses-context-lts.Need-returns-2 (claims t) (determine-uses-context-at t) determine-uses-context.Post
   returns-2 c = is-context (c .before .before .before .before .before .pre .1 .1) (sym (c .before .kind-of .ensures) ∙ c .if2 .taken)
 
-  mul-visited : determine-uses-context-lts.Need-mul-visited (claims t) (determine-uses-context-at t) determine-uses-context.Post
-  mul-visited c = omega (arith, c .before .before .before .before .before .pre .1 .2, c .before .before .before .before .before .pre .1 .0 .few)
-
   element-write-visited : determine-uses-context-lts.Need-element-write-visited (claims t) (determine-uses-context-at t) determine-uses-context.Post
   element-write-visited c = omega (arith, c .before .before .before .before .before .pre .1 .2, c .before .before .before .before .before .pre .1 .0 .few)
 
   any-uses-context-requires : determine-uses-context-lts.Need-any-uses-context-requires (claims t) (determine-uses-context-at t) determine-uses-context.Post
-  any-uses-context-requires c κs = let m : Marking (c .before .before .before .before .before .before .before .args .pack .now) (c .before .before .before .before .before .before .before .args .c) (c .before .before .before .before .before .before .before .args .visited .now) (c .before .before .before .before .before .before .before .args .v) (c .before .list-of .result) = record { sized = c .before .before .before .before .before .before .before .pre .1 .1; small = omega (arith, c .before .before .before .before .before .before .before .pre .1 .2, c .before .before .before .before .before .before .before .pre .1 .0 .few); unvisited = c .before .before .before .before .if1 .left; other = λ e. c .before .before .if2 .left (c .before .before .before .kind-of .ensures ∙ e); list-is = c .before .list-of .ensures } in (omega (arith, c .before .before .before .before .before .before .before .pre .0, less m), (c .before .before .before .before .before .before .before .pre .1 .0, marked-sized m, refs-values (c .before .before .before .before .before .before .before .pre .1 .0) (c .before .before .before .before .before .before .before .pre .1 .2) (c .before .list-of .ensures)))
+  any-uses-context-requires c κs =
+      let k = c .before .before .before .before .before .before .before in
+      let t = k .pre .1 .0 in
+      let u = c .before .before .before .before .if1 .left in
+      let d = c .before .before .if2 .left in
+      let e = c .before .list-of .ensures in
+      let m = marking (k .args .visited .now) t (k .pre .1 .1) (k .pre .1 .2) u (c .before .before .before .kind-of .ensures) d e in
+      (omega (arith, k .pre .0, less m), (t, marked-sized m, refs-values t (k .pre .1 .2) e))
 
   returns-3 : determine-uses-context-lts.Need-returns-3 (claims t) (determine-uses-context-at t) determine-uses-context.Post
-  returns-3 c = entered (record { sized = c .before .before .before .before .before .before .before .before .pre .1 .1; small = omega (arith, c .before .before .before .before .before .before .before .before .pre .1 .2, c .before .before .before .before .before .before .before .before .pre .1 .0 .few); unvisited = c .before .before .before .before .before .if1 .left; other = λ e. c .before .before .before .if2 .left (c .before .before .before .before .kind-of .ensures ∙ e); list-is = c .before .before .list-of .ensures }) (c .any-uses-context .ensures)
+  returns-3 c =
+      let k = c .before .before .before .before .before .before .before .before in
+      let u = c .before .before .before .before .before .if1 .left in
+      let d = c .before .before .before .if2 .left in
+      let e = c .before .before .list-of .ensures in
+      entered
+      (marking (k .args .visited .now) (k .pre .1 .0) (k .pre .1 .1) (k .pre .1 .2) u (c .before .before .before .before .kind-of .ensures) d e)
+      (c .any-uses-context .ensures)
 
   pub determine-uses-context-closed : {M : Type 1} → determine-uses-context-lts.Closed (claims t) (determine-uses-context-at t) determine-uses-context.Post M
   determine-uses-context-closed =
       determine-uses-context-lts.spec (claims t) (determine-uses-context-at t) determine-uses-context.Post
-      mul-seen element-copy-out-seen returns (λ c κs. search needs) returns-2 mul-visited element-write-visited (λ c κs. search needs) any-uses-context-requires returns-3
+      element-copy-out-seen returns (λ c κs. search needs) returns-2 element-write-visited (λ c κs. search needs) any-uses-context-requires returns-3
