@@ -34,11 +34,14 @@ module _ {stack : List ℕ} {top w i : ℕ} (inv : AskStack stack top w i) where
   member : i < capacity → drop i stack ≡ getD stack i 0 ∷ drop (i + 1) stack
   member l = rw add-one (drop-cons stack i 0 (omega (arith, inv .long)))
 
-  pub member-found : i < capacity → getD stack i 0 ≡ w → true ≡ has w (drop top stack)
-  member-found l q = sym (has-first w (getD stack i 0) (drop (i + 1) stack) q) ∙ ap (has w) (sym (member l)) ∙ inv .says
+  pub member-found : {x : ℕ} → i < capacity → x ≡ getD stack i 0 → x ≡ w → true ≡ has w (drop top stack)
+  member-found l e q = sym (has-first w (getD stack i 0) (drop (i + 1) stack) (sym e ∙ q)) ∙ ap (has w) (sym (member l)) ∙ inv .says
 
-  pub member-passes : i < capacity → (getD stack i 0 ≡ w → ⊥) → AskStack stack top w (i + 1)
-  member-passes l q = record { long = inv .long; says = has-rest w (getD stack i 0) (drop (i + 1) stack) q ∙ ap (has w) (sym (member l)) ∙ inv .says }
+  pub member-passes : {x : ℕ} → i < capacity → x ≡ getD stack i 0 → (x ≡ w → ⊥) → AskStack stack top w (i + 1)
+  member-passes l e q = record {
+    long = inv .long;
+    says = has-rest w (getD stack i 0) (drop (i + 1) stack) (λ j. q (e ∙ j)) ∙ ap (has w) (sym (member l)) ∙ inv .says;
+  }
 
   pub stack-over : capacity ≤ i → false ≡ has w (drop top stack)
   stack-over l = ap (has w) (sym (drop-of-length-le stack {i = i} (omega (arith, inv .long)))) ∙ inv .says

@@ -13,6 +13,7 @@ use crate::search::update_lowlink;
 use crate::stack::on_stack;
 use crate::values::Values;
 use crate::values::list_of;
+use crate::values::wide;
 use pack::Counts;
 use pack::list_item;
 use pack::list_len;
@@ -22,10 +23,10 @@ fn follow(
     pack: &[u8],
     c: Counts,
     w: u32,
-    index: &mut [u32; Values::CAPACITY],
-    stack: &mut [u32; Values::CAPACITY],
-    listed: &mut [u32; Values::CAPACITY],
-    size: &mut [u32; Values::CAPACITY],
+    index: &mut [u16; Values::CAPACITY],
+    stack: &mut [u16; Values::CAPACITY],
+    listed: &mut [u16; Values::CAPACITY],
+    size: &mut [u16; Values::CAPACITY],
     r: Run,
 ) -> Run
     requires { ⌜ (w < c .values) × Stands (now pack) c (lent (now index) (now stack) (now listed) (now size)) r ⌝ }
@@ -39,7 +40,7 @@ fn follow(
         update_lowlink(q, r.low)
     } else {
         if on_stack(stack, top, w) {
-            update_lowlink(r, i)
+            update_lowlink(r, wide(i))
         } else {
             r
         }
@@ -51,10 +52,10 @@ fn follow_all(
     pack: &[u8],
     c: Counts,
     s: u32,
-    index: &mut [u32; Values::CAPACITY],
-    stack: &mut [u32; Values::CAPACITY],
-    listed: &mut [u32; Values::CAPACITY],
-    size: &mut [u32; Values::CAPACITY],
+    index: &mut [u16; Values::CAPACITY],
+    stack: &mut [u16; Values::CAPACITY],
+    listed: &mut [u16; Values::CAPACITY],
+    size: &mut [u16; Values::CAPACITY],
     r: Run,
 ) -> Run
     requires { ⌜ ((w : ℕ) → In w (itemsOf (now pack) c s) → w < c .values) × Stands (now pack) c (lent (now index) (now stack) (now listed) (now size)) r ⌝ }
@@ -77,10 +78,10 @@ fn strongly_connect(
     pack: &[u8],
     c: Counts,
     v: u32,
-    index: &mut [u32; Values::CAPACITY],
-    stack: &mut [u32; Values::CAPACITY],
-    listed: &mut [u32; Values::CAPACITY],
-    size: &mut [u32; Values::CAPACITY],
+    index: &mut [u16; Values::CAPACITY],
+    stack: &mut [u16; Values::CAPACITY],
+    listed: &mut [u16; Values::CAPACITY],
+    size: &mut [u16; Values::CAPACITY],
     r: Run,
 ) -> Run
     requires { ⌜ (v < c .values) × ((s : State) × Holds (now pack) c (lent (now index) (now stack) (now listed) (now size)) r s × (count v (s .found) ≡ 0)) ⌝ }
@@ -90,8 +91,8 @@ fn strongly_connect(
     let end = r.top;
     let top = end - 1;
     let i = r.next + 1;
-    index[v as usize] = i;
-    stack[top] = v;
+    index[v as usize] = i as u16;
+    stack[top] = v as u16;
     let s = list_of(pack, c, v);
     let q = follow_all(
         pack,
@@ -120,8 +121,8 @@ fn strongly_connect(
 pub fn tarjan(
     pack: &[u8],
     c: Counts,
-    listed: &mut [u32; Values::CAPACITY],
-    size: &mut [u32; Values::CAPACITY],
+    listed: &mut [u16; Values::CAPACITY],
+    size: &mut [u16; Values::CAPACITY],
 )
     requires { ⌜ InRange (now pack) c × Blank (now listed) × Blank (now size) ⌝ }
     ensures { λ _. ⌜ Sorted (now (pack .entry)) c (now (listed .exit)) (now (size .exit)) ⌝ }

@@ -7,3 +7,4 @@ mod values;
 pub use connect::tarjan;
 pub use values::Values;
 pub use values::list_of;
+pub use values::wide;

@@ -29,9 +29,9 @@ pub fn update_lowlink(r: Run, new: u32) -> Run
 
 // The values from the stack's top up to `end` are a component: they leave the stack, are listed, and get its size.
 pub fn pop(
-    stack: &[u32; Values::CAPACITY],
-    listed: &mut [u32; Values::CAPACITY],
-    size: &mut [u32; Values::CAPACITY],
+    stack: &[u16; Values::CAPACITY],
+    listed: &mut [u16; Values::CAPACITY],
+    size: &mut [u16; Values::CAPACITY],
     r: Run,
     end: usize,
 ) -> Run
@@ -39,7 +39,7 @@ pub fn pop(
     ensures { λ q. ⌜ Popped (now (stack .entry)) (now (listed .entry)) (now (size .entry)) r end (now (listed .exit)) (now (size .exit)) q ⌝ }
 {
     let top = r.top;
-    let members = (end - top) as u32;
+    let members = (end - top) as u16;
     let mut i = top;
     let mut d = r.done;
     while i < end {

@@ -7,7 +7,7 @@ use pack::value_row;
 
 // A number for each value. It is lent as `&mut v.of`.
 pub struct Values {
-    pub of: [u32; Values::CAPACITY],
+    pub of: [u16; Values::CAPACITY],
 }
 
 impl Values {
@@ -17,9 +17,16 @@ impl Values {
         ensures { λ r. ⌜ r .of ≡ replicate capacity 0 ⌝ }
     {
         Self {
-            of: [0u32; Self::CAPACITY],
+            of: [0u16; Self::CAPACITY],
         }
     }
+}
+
+// A number that an array has, as one of 32 bits.
+pub fn wide(x: u16) -> u32
+    ensures { λ r. ⌜ r ≡ x ⌝ }
+{
+    x as u32
 }
 
 // Where the list of the values that v references starts.

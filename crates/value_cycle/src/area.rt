@@ -4,7 +4,7 @@ ghost use lib.ListN.{take};
 ghost use Rattle.value_cycle.specs.Area.{written, Writes};
 use tarjan::Values;
 
-pub fn write_order(listed: &[u32; Values::CAPACITY], n: u32, area: &mut [u8])
+pub fn write_order(listed: &[u16; Values::CAPACITY], n: u32, area: &mut [u8])
     requires { ⌜ Writes (now listed) n (now area) ⌝ }
     ensures { λ _. ⌜ now (area .exit) ≡ written (take n (now (listed .entry))) (now (area .entry)) ⌝ }
 {

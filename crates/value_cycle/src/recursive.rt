@@ -7,6 +7,7 @@ ghost use Rattle.value_cycle.specs.Order.{listsItselfIn, isLoopedIn, sel
 use crate::values::CONSTANT;
 use crate::values::contains;
 use crate::values::kind_of;
+use crate::values::value_at;
 use laws::both;
 use pack::Counts;
 use tarjan::Values;
@@ -41,7 +42,7 @@ pub fn first_self(pack: &[u8], c: Counts) -> u32
 }
 
 // Whether v is a constant in a component of two or more.
-fn is_looped(pack: &[u8], c: Counts, size: &[u32; Values::CAPACITY], v: u32) -> bool
+fn is_looped(pack: &[u8], c: Counts, size: &[u16; Values::CAPACITY], v: u32) -> bool
     requires { ⌜ v < capacity ⌝ }
     ensures { λ r. ⌜ r ≡ isLoopedIn (now (pack .entry)) c (now (size .entry)) v ⌝ }
 {
@@ -54,8 +55,8 @@ fn is_looped(pack: &[u8], c: Counts, size: &[u32; Values::CAPACITY], v: u32) -> 
 pub fn first_looped(
     pack: &[u8],
     c: Counts,
-    listed: &[u32; Values::CAPACITY],
-    size: &[u32; Values::CAPACITY],
+    listed: &[u16; Values::CAPACITY],
+    size: &[u16; Values::CAPACITY],
 ) -> u32
     requires { ⌜ InRange (now pack) c × Sorted (now pack) c (now listed) (now size) ⌝ }
     ensures { λ r. ⌜ r ≡ loopAt (now (pack .entry)) c ⌝ }
@@ -63,7 +64,7 @@ pub fn first_looped(
     let n = c.values;
     let mut d = 0;
     while d < n {
-        let v = listed[d as usize];
+        let v = value_at(listed, d);
         if is_looped(pack, c, size, v) {
             return d;
         }

@@ -10,16 +10,17 @@ use pack::list_item;
 use pack::list_len;
 use pack::value_row;
 use tarjan::Values;
+use tarjan::wide;
 
 pub const CONSTANT: u32 = 0;
 
 pub const CONTEXT: u32 = 2;
 
-pub fn value_at(values: &[u32; Values::CAPACITY], d: u32) -> u32
+pub fn value_at(values: &[u16; Values::CAPACITY], d: u32) -> u32
     requires { ⌜ d < capacity ⌝ }
     ensures { λ r. ⌜ r ≡ getD (now (values .entry)) d 0 ⌝ }
 {
-    values[d as usize]
+    wide(values[d as usize])
 }
 
 pub fn kind_of(pack: &[u8], c: Counts, v: u32) -> u32

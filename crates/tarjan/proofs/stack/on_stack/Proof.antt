@@ -15,13 +15,20 @@ loop-holds : tie.Need-loop-holds Inv-loop μ-loop
 loop-holds c = record { long = c .pre; says = refl }
 
 returns : tie.Need-returns Inv-loop μ-loop
-returns c = member-found (c .before .before .before .loop .inv) (c .before .before .loop-test .taken) (c .if1 .taken)
+returns c =
+    let l = c .before .before .before in
+    member-found (l .before .loop .inv) (l .loop-test .taken) (c .before .wide .ensures) (c .if1 .taken)
 
 loop-again : tie.Need-loop-again Inv-loop μ-loop
-loop-again c = member-passes (c .before .before .before .loop .inv) (c .before .before .loop-test .taken) (c .if1 .left)
+loop-again c =
+    let l = c .before .before .before in
+    member-passes (l .before .loop .inv) (l .loop-test .taken) (c .before .wide .ensures) (c .if1 .left)
 
 returns-2 : tie.Need-returns-2 Inv-loop μ-loop
 returns-2 c = stack-over (c .before .loop .inv) (c .loop-test .left)
 
 pub on-stack-spec : {M : Type 1} → statement M
-on-stack-spec = tie.close (tie.spec Inv-loop μ-loop loop-holds (λ c. search needs) (λ c. search needs) returns (λ c. search needs) (λ c. search needs) loop-again returns-2)
+on-stack-spec =
+    tie.close
+    (tie.spec Inv-loop μ-loop
+    loop-holds (λ c. search needs) (λ c. search needs) (λ c κs. search needs) returns (λ c. search needs) (λ c. search needs) loop-again returns-2)

@@ -29,7 +29,14 @@ module _ (t : ℕ) where
   sub-top c = omega (arith, stack-room (c .before .pre .1 .1 .1) (c .before .args .v) (c .before .pre .1 .0) (c .before .pre .1 .1 .2))
 
   add-i : strongly-connect-lts.Need-add-i (claims t) (strongly-connect-at t) strongly-connect.Post
-  add-i c = omega (arith, next-room (c .before .before .pre .1 .1 .1) (c .before .before .args .v) (c .before .before .pre .1 .0) (c .before .before .pre .1 .1 .2))
+  add-i c =
+      let p = c .before .before .pre .1 in
+      omega (arith, next-room (p .1 .1) (c .before .before .args .v) (p .0) (p .1 .2))
+
+  cast-index : strongly-connect-lts.Need-cast-index (claims t) (strongly-connect-at t) strongly-connect.Post
+  cast-index c =
+      let p = c .before .before .pre .1 in
+      omega (arith, next-room (p .1 .1) (c .before .before .args .v) (p .0) (p .1 .2))
 
   mul-index : strongly-connect-lts.Need-mul-index (claims t) (strongly-connect-at t) strongly-connect.Post
   mul-index c = omega (arith, c .before .before .pre .1 .0, c .before .before .pre .1 .1 .1 .in-range .few)
@@ -37,25 +44,61 @@ module _ (t : ℕ) where
   element-write-index : strongly-connect-lts.Need-element-write-index (claims t) (strongly-connect-at t) strongly-connect.Post
   element-write-index c = omega (arith, c .before .before .pre .1 .0, c .before .before .pre .1 .1 .1 .in-range .few)
 
+  cast-stack : strongly-connect-lts.Need-cast-stack (claims t) (strongly-connect-at t) strongly-connect.Post
+  cast-stack c = omega (arith, c .before .before .pre .1 .0, c .before .before .pre .1 .1 .1 .in-range .few)
+
   mul-stack : strongly-connect-lts.Need-mul-stack (claims t) (strongly-connect-at t) strongly-connect.Post
   mul-stack c = omega (arith, c .before .before .pre .1 .1 .1 .top-le)
 
   element-write-stack : strongly-connect-lts.Need-element-write-stack (claims t) (strongly-connect-at t) strongly-connect.Post
-  element-write-stack c = omega (arith, stack-room (c .before .before .pre .1 .1 .1) (c .before .before .args .v) (c .before .before .pre .1 .0) (c .before .before .pre .1 .1 .2), c .before .before .pre .1 .1 .1 .top-le)
+  element-write-stack c =
+      let p = c .before .before .pre .1 in
+      omega (arith, stack-room (p .1 .1) (c .before .before .args .v) (p .0) (p .1 .2), p .1 .1 .top-le)
 
   follow-all-requires : strongly-connect-lts.Need-follow-all-requires (claims t) (strongly-connect-at t) strongly-connect.Post
-  follow-all-requires c κs = (omega (arith, c .before .before .before .before .before .before .before .pre .0, next-room (c .before .before .before .before .before .before .before .pre .1 .1 .1) (c .before .before .before .before .before .before .before .args .v) (c .before .before .before .before .before .before .before .pre .1 .0) (c .before .before .before .before .before .before .before .pre .1 .1 .2)), (refs-values (c .before .before .before .before .before .before .before .pre .1 .1 .1 .in-range) (c .before .before .before .before .before .before .before .pre .1 .0) (c .before .before .before .before .list-of .ensures), (push (c .before .before .before .before .before .before .before .args .v) (c .before .before .before .before .before .before .before .pre .1 .1 .0), put (c .before .before .before .before .before .before .before .pre .1 .1 .1) (c .before .before .before .before .before .before .before .args .v) (c .before .before .before .before .before .before .before .pre .1 .0) (c .before .before .before .before .before .before .before .pre .1 .1 .2))))
+  follow-all-requires c κs =
+      let k = c .before .before .before .before .before .before .before in
+      let v = k .args .v in
+      let l = k .pre .1 .0 in
+      let h = k .pre .1 .1 .1 in
+      let z = k .pre .1 .1 .2 in (
+        omega (arith, k .pre .0, next-room h v l z),
+        (refs-values (h .in-range) l (c .before .before .before .before .list-of .ensures), (push v (k .pre .1 .1 .0), put h v l z)),
+      )
 
   pop-requires : strongly-connect-lts.Need-pop-requires (claims t) (strongly-connect-at t) strongly-connect.Post
-  pop-requires c κs = pops (c .before .before .before .before .before .before .before .before .before .before .before .before .pre .1 .1 .1) (c .before .before .before .before .before .before .before .before .before .before .before .before .pre .1 .0) (c .before .before .before .before .before .before .before .before .before .before .before .before .pre .1 .1 .2) (c .before .before .before .before .before .before .before .before .before .list-of .ensures) (c .before .before .before .before .follow-all .ensures .1 (push (c .before .before .before .before .before .before .before .before .before .before .before .before .args .v) (c .before .before .before .before .before .before .before .before .before .before .before .before .pre .1 .1 .0)) (put (c .before .before .before .before .before .before .before .before .before .before .before .before .pre .1 .1 .1) (c .before .before .before .before .before .before .before .before .before .before .before .before .args .v) (c .before .before .before .before .before .before .before .before .before .before .before .before .pre .1 .0) (c .before .before .before .before .before .before .before .before .before .before .before .before .pre .1 .1 .2)))
+  pop-requires c κs =
+      let k = c .before .before .before .before .before .before .before .before .before .before .before .before in
+      let v = k .args .v in
+      let l = k .pre .1 .0 in
+      let h = k .pre .1 .1 .1 in
+      let z = k .pre .1 .1 .2 in
+      let q = c .before .before .before .before .follow-all .ensures in
+      pops h l z (c .before .before .before .before .before .before .before .before .before .list-of .ensures) (q .1 (push v (k .pre .1 .1 .0)) (put h v l z))
 
   returns : strongly-connect-lts.Need-returns (claims t) (strongly-connect-at t) strongly-connect.Post
-  returns c = (omega (arith, ap (λ (q : Run). q .next) (c .pop .ensures .run-is), c .before .before .before .before .before .follow-all .ensures .0), λ s h z. leaves h (c .before .before .before .before .before .before .before .before .before .before .before .before .before .pre .1 .0) z (c .before .before .before .before .before .before .before .before .before .before .list-of .ensures) (c .before .before .before .before .before .follow-all .ensures .1 (push (c .before .before .before .before .before .before .before .before .before .before .before .before .before .args .v) s) (put h (c .before .before .before .before .before .before .before .before .before .before .before .before .before .args .v) (c .before .before .before .before .before .before .before .before .before .before .before .before .before .pre .1 .0) z)) (c .before .before .before .before .if1 .taken) (c .pop .ensures))
+  returns c =
+      let k = c .before .before .before .before .before .before .before .before .before .before .before .before .before in
+      let v = k .args .v in
+      let l = k .pre .1 .0 in
+      let q = c .before .before .before .before .before .follow-all .ensures in
+      let e = c .before .before .before .before .before .before .before .before .before .before .list-of .ensures in
+      let own = c .before .before .before .before .if1 .taken in (
+        omega (arith, ap (λ (q : Run). q .next) (c .pop .ensures .run-is), q .0),
+        λ s h z. leaves h l z e (q .1 (push v s) (put h v l z)) own (c .pop .ensures),
+      )
 
   returns-2 : strongly-connect-lts.Need-returns-2 (claims t) (strongly-connect-at t) strongly-connect.Post
-  returns-2 c = (omega (arith, c .before .follow-all .ensures .0), λ s h z. stays h (c .before .before .before .before .before .before .before .before .before .pre .1 .0) z (c .before .before .before .before .before .before .list-of .ensures) (c .before .follow-all .ensures .1 (push (c .before .before .before .before .before .before .before .before .before .args .v) s) (put h (c .before .before .before .before .before .before .before .before .before .args .v) (c .before .before .before .before .before .before .before .before .before .pre .1 .0) z)) (c .if1 .left))
+  returns-2 c =
+      let k = c .before .before .before .before .before .before .before .before .before in
+      let v = k .args .v in
+      let l = k .pre .1 .0 in
+      let q = c .before .follow-all .ensures in
+      let e = c .before .before .before .before .before .before .list-of .ensures in
+      (omega (arith, q .0), λ s h z. stays h l z e (q .1 (push v s) (put h v l z)) (c .if1 .left))
 
   pub strongly-connect-closed : {M : Type 1} → strongly-connect-lts.Closed (claims t) (strongly-connect-at t) strongly-connect.Post M
   strongly-connect-closed =
       strongly-connect-lts.spec (claims t) (strongly-connect-at t) strongly-connect.Post
-      sub-top add-i mul-index element-write-index mul-stack element-write-stack (λ c κs. search needs) follow-all-requires pop-requires returns returns-2
+      sub-top add-i cast-index mul-index element-write-index cast-stack mul-stack element-write-stack
+      (λ c κs. search needs) follow-all-requires pop-requires returns returns-2
