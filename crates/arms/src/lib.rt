@@ -1,4 +1,6 @@
 // What module 4 of document 01 decides of a match without looking into its parts: refusals 24, 26 to 30, 35 and 36.
+#![tactic(auto)]
+
 mod answer;
 mod arms;
 

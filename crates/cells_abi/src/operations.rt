@@ -5,7 +5,7 @@ ghost use Rattle.cells_abi.specs.Script.{Steps, make_step, find_step, ref_step, 
 use unionfind::{Answer, Kind, Made, UnionFind, find, find_ref, fresh, set};
 
 // What an operation answers, a code or a refusal's number; the refusal's place; how many variables are in use after it.
-#[derive(Drop)]
+#[derive(Clone, Copy)]
 pub struct Step {
     pub answer: u32,
     pub place: u32,

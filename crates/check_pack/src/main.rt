@@ -5,6 +5,8 @@
 //     order V V ..
 //
 // A refusal prints `refused NUMBER PLACE DETAIL`, and nothing comes after it.
+#![tactic(auto)]
+
 mod report;
 mod whole;
 

@@ -23,7 +23,7 @@ pub const AREA: usize = 2048;
 const WORDS: usize = 16384;
 
 // The parts that passed, and the refusal of the one that did not.
-#[derive(Drop)]
+#[derive(Clone, Copy)]
 pub enum Verdict {
     // No part passed.
     NoTypes(Refusal),

@@ -68,7 +68,7 @@ module _ (refs : ℕ → List ℕ) where
   class_here : {c : List ℕ} {cs : List (List ℕ)} → Emitted refs (c ∷ cs) → Once (c ∷ cs) → (a b : ℕ) → In a c → In b c ↔ (Reach refs a b × Reach refs b a)
   class_here em o a b h = (λ k. (mutual_in em a b h k, mutual_in em b a k h), λ r. same_class em o a b h r.0 r.1)
 
-  pub classes : {cs : List (List ℕ)} (c : List ℕ) → Memᴰ c cs → Emitted refs cs → Once cs → (a b : ℕ) → In a c → In b c ↔ (Reach refs a b × Reach refs b a)
+  pub classes : (c : List ℕ) {cs : List (List ℕ)} → Memᴰ c cs → Emitted refs cs → Once cs → (a b : ℕ) → In a c → In b c ↔ (Reach refs a b × Reach refs b a)
   classes c (Memᴰ.head {x} {xs} e) em o a b h = subst (λ d. In b d ↔ (Reach refs a b × Reach refs b a)) (sym e) (class_here em o a b (subst (λ d. In a d) e h))
   classes c (Memᴰ.tail {x} {xs} k) em o a b h = classes c k (earlier em) (once_tail x xs o) a b h
 

@@ -5,28 +5,28 @@ ghost use Rattle.expr.specs.State.{outcome};
 use laws::Refusal;
 
 // A node or a part of a rule that is accepted: whether it diverges, the call that its operator chose, and how many variables are in use.
-#[derive(Drop)]
+#[derive(Clone, Copy)]
 pub struct Outcome {
     pub diverges: bool,
     pub call: u32,
     pub vars: u32,
 }
 
-#[derive(Drop)]
+#[derive(Clone, Copy)]
 pub enum Step {
     Done(Outcome),
     Refused(Refusal),
 }
 
 // A type's code to check against, and how many variables are in use with it.
-#[derive(Drop)]
+#[derive(Clone, Copy)]
 pub enum Typed {
     Type { code: u32, vars: u32 },
     Refused(Refusal),
 }
 
 // A root: its words are written to the area, or it is refused.
-#[derive(Drop)]
+#[derive(Clone, Copy)]
 pub enum Checked {
     Report,
     Refused(Refusal),

@@ -1,4 +1,6 @@
 // Expressions: module 4 of document 01.
+#![tactic(auto)]
+
 mod answer;
 mod notes;
 mod payload;

@@ -27,7 +27,7 @@ use unionfind::{Kind, UnionFind};
 use words::Notes;
 
 // A let: its type, its value, then its slot opens.
-#[cycle(access_field_arm_arm_body_arms_in_order_binop_block_cases_expr_fields_in_order_guarded_last_let_stmt_match_expr_record_fields_return_expr_returned_right_rule_stmt_stmts)]
+#[cycle(rules)]
 pub fn let_stmt(
     pack: &[u8],
     c: Counts,
@@ -67,7 +67,7 @@ pub fn let_stmt(
 }
 
 // A statement: a let, or an expression of any type.
-#[cycle(access_field_arm_arm_body_arms_in_order_binop_block_cases_expr_fields_in_order_guarded_last_let_stmt_match_expr_record_fields_return_expr_returned_right_rule_stmt_stmts)]
+#[cycle(rules)]
 pub fn stmt(
     pack: &[u8],
     c: Counts,
@@ -101,7 +101,7 @@ pub fn stmt(
 }
 
 // The statements of a list of n, in order.
-#[cycle(access_field_arm_arm_body_arms_in_order_binop_block_cases_expr_fields_in_order_guarded_last_let_stmt_match_expr_record_fields_return_expr_returned_right_rule_stmt_stmts)]
+#[cycle(rules)]
 pub fn stmts(
     pack: &[u8],
     c: Counts,
@@ -143,7 +143,7 @@ pub fn stmts(
 }
 
 // A block's last expression, stored as last+1, or unit unless diverged.
-#[cycle(access_field_arm_arm_body_arms_in_order_binop_block_cases_expr_fields_in_order_guarded_last_let_stmt_match_expr_record_fields_return_expr_returned_right_rule_stmt_stmts)]
+#[cycle(rules)]
 pub fn last(
     pack: &[u8],
     c: Counts,
@@ -189,7 +189,7 @@ pub fn last(
 }
 
 // A block: its statements and its last expression; then its lets' slots close.
-#[cycle(access_field_arm_arm_body_arms_in_order_binop_block_cases_expr_fields_in_order_guarded_last_let_stmt_match_expr_record_fields_return_expr_returned_right_rule_stmt_stmts)]
+#[cycle(rules)]
 pub fn block(
     pack: &[u8],
     c: Counts,
@@ -231,7 +231,7 @@ pub fn block(
 }
 
 // An operator once its left side is checked: the left side's test, then the right side.
-#[cycle(access_field_arm_arm_body_arms_in_order_binop_block_cases_expr_fields_in_order_guarded_last_let_stmt_match_expr_record_fields_return_expr_returned_right_rule_stmt_stmts)]
+#[cycle(rules)]
 pub fn right(
     pack: &[u8],
     c: Counts,
@@ -272,7 +272,7 @@ pub fn right(
 }
 
 // An operator: what it wants of expected, its left side, and the rest.
-#[cycle(access_field_arm_arm_body_arms_in_order_binop_block_cases_expr_fields_in_order_guarded_last_let_stmt_match_expr_record_fields_return_expr_returned_right_rule_stmt_stmts)]
+#[cycle(rules)]
 pub fn binop(
     pack: &[u8],
     c: Counts,
@@ -311,7 +311,7 @@ pub fn binop(
 }
 
 // A guard, stored as guard+1, against bool.
-#[cycle(access_field_arm_arm_body_arms_in_order_binop_block_cases_expr_fields_in_order_guarded_last_let_stmt_match_expr_record_fields_return_expr_returned_right_rule_stmt_stmts)]
+#[cycle(rules)]
 pub fn guarded(
     pack: &[u8],
     c: Counts,
@@ -351,7 +351,7 @@ pub fn guarded(
 }
 
 // An arm whose slots are open: guard and body; then its slots close.
-#[cycle(access_field_arm_arm_body_arms_in_order_binop_block_cases_expr_fields_in_order_guarded_last_let_stmt_match_expr_record_fields_return_expr_returned_right_rule_stmt_stmts)]
+#[cycle(rules)]
 pub fn arm_body(
     pack: &[u8],
     c: Counts,
@@ -394,7 +394,7 @@ pub fn arm_body(
 }
 
 // Arm k of a match on the variants of a list.
-#[cycle(access_field_arm_arm_body_arms_in_order_binop_block_cases_expr_fields_in_order_guarded_last_let_stmt_match_expr_record_fields_return_expr_returned_right_rule_stmt_stmts)]
+#[cycle(rules)]
 pub fn arm(
     pack: &[u8],
     c: Counts,
@@ -435,7 +435,7 @@ pub fn arm(
 }
 
 // The n arms of a match, in order; none may come after an unguarded `_`.
-#[cycle(access_field_arm_arm_body_arms_in_order_binop_block_cases_expr_fields_in_order_guarded_last_let_stmt_match_expr_record_fields_return_expr_returned_right_rule_stmt_stmts)]
+#[cycle(rules)]
 pub fn arms_in_order(
     pack: &[u8],
     c: Counts,
@@ -485,7 +485,7 @@ pub fn arms_in_order(
 }
 
 // The arms of a match on an enum, and whether they leave a variant out.
-#[cycle(access_field_arm_arm_body_arms_in_order_binop_block_cases_expr_fields_in_order_guarded_last_let_stmt_match_expr_record_fields_return_expr_returned_right_rule_stmt_stmts)]
+#[cycle(rules)]
 pub fn cases(
     pack: &[u8],
     c: Counts,
@@ -525,7 +525,7 @@ pub fn cases(
 }
 
 // A match: its examinee has to be an enum; then the arms.
-#[cycle(access_field_arm_arm_body_arms_in_order_binop_block_cases_expr_fields_in_order_guarded_last_let_stmt_match_expr_record_fields_return_expr_returned_right_rule_stmt_stmts)]
+#[cycle(rules)]
 pub fn match_expr(
     pack: &[u8],
     c: Counts,
@@ -571,7 +571,7 @@ pub fn match_expr(
 }
 
 // The n fields given to a record, in written order.
-#[cycle(access_field_arm_arm_body_arms_in_order_binop_block_cases_expr_fields_in_order_guarded_last_let_stmt_match_expr_record_fields_return_expr_returned_right_rule_stmt_stmts)]
+#[cycle(rules)]
 pub fn fields_in_order(
     pack: &[u8],
     c: Counts,
@@ -616,7 +616,7 @@ pub fn fields_in_order(
 }
 
 // A record of a definition.
-#[cycle(access_field_arm_arm_body_arms_in_order_binop_block_cases_expr_fields_in_order_guarded_last_let_stmt_match_expr_record_fields_return_expr_returned_right_rule_stmt_stmts)]
+#[cycle(rules)]
 pub fn record_fields(
     pack: &[u8],
     c: Counts,
@@ -656,7 +656,7 @@ pub fn record_fields(
 }
 
 // A field of what the inner node stands for.
-#[cycle(access_field_arm_arm_body_arms_in_order_binop_block_cases_expr_fields_in_order_guarded_last_let_stmt_match_expr_record_fields_return_expr_returned_right_rule_stmt_stmts)]
+#[cycle(rules)]
 pub fn access_field(
     pack: &[u8],
     c: Counts,
@@ -697,7 +697,7 @@ pub fn access_field(
 }
 
 // What a return gives back, stored as value+1, against the root's return type.
-#[cycle(access_field_arm_arm_body_arms_in_order_binop_block_cases_expr_fields_in_order_guarded_last_let_stmt_match_expr_record_fields_return_expr_returned_right_rule_stmt_stmts)]
+#[cycle(rules)]
 pub fn returned(
     pack: &[u8],
     c: Counts,
@@ -738,7 +738,7 @@ pub fn returned(
 }
 
 // A return.
-#[cycle(access_field_arm_arm_body_arms_in_order_binop_block_cases_expr_fields_in_order_guarded_last_let_stmt_match_expr_record_fields_return_expr_returned_right_rule_stmt_stmts)]
+#[cycle(rules)]
 pub fn return_expr(
     pack: &[u8],
     c: Counts,
@@ -767,7 +767,7 @@ pub fn return_expr(
 }
 
 // The rule of a node's kind.
-#[cycle(access_field_arm_arm_body_arms_in_order_binop_block_cases_expr_fields_in_order_guarded_last_let_stmt_match_expr_record_fields_return_expr_returned_right_rule_stmt_stmts)]
+#[cycle(rules)]
 pub fn rule(
     pack: &[u8],
     c: Counts,
@@ -815,7 +815,7 @@ pub fn rule(
 }
 
 // An expression: its expected type is recorded, its rule is run, and its note is sealed.
-#[cycle(access_field_arm_arm_body_arms_in_order_binop_block_cases_expr_fields_in_order_guarded_last_let_stmt_match_expr_record_fields_return_expr_returned_right_rule_stmt_stmts)]
+#[cycle(rules)]
 pub fn expr(
     pack: &[u8],
     c: Counts,

@@ -24,7 +24,7 @@ const BARE_FLOAT: u32 = 6;
 const UNIT_LITERAL: u32 = 7;
 
 // The codes of two types that the rules name.
-#[derive(Drop)]
+#[derive(Clone, Copy)]
 pub struct Code {
     pub code: u32,
 }

@@ -1,4 +1,6 @@
 // What the code of all layers shares: tests that are all asked first and then joined, and the refusal that they lead to.
+#![tactic(auto)]
+
 ghost use Rattle.std.specs.Prelude.{◌≡◌, ◌&&◌, ◌||◌};
 ghost use Rattle.laws.specs.Choice.{pick};
 ghost use Rattle.laws.specs.Lists.{bit};

@@ -1,4 +1,6 @@
 // Lists: what their items stay below, names that differ, references that rise, each asked of a whole list at once.
+#![tactic(auto)]
+
 mod earlier;
 mod limits;
 mod lists;

@@ -9,7 +9,7 @@ use laws::both;
 use pack::{Counts, list_len};
 
 // What the items of a list are, with what their words stay below.
-#[derive(Drop)]
+#[derive(Clone, Copy)]
 pub enum Items {
     // One id.
     Ids(u32),

@@ -1,7 +1,7 @@
 // What is said of a field.
 
 // The type id of a field, or the number of a refusal.
-#[derive(Drop)]
+#[derive(Clone, Copy)]
 pub enum Accessed {
     Type(u32),
     Fault(u32),

@@ -1,5 +1,7 @@
 // What a resolved type names, its members by name, and what module 4 of document 01 decides of a field without
 // looking into its parts: refusals 32, 35 and 36.
+#![tactic(auto)]
+
 mod access;
 mod answer;
 mod lists;

@@ -5,7 +5,7 @@ ghost use Rattle.operators.specs.Operators.{primitive_code};
 
 use unionfind::{Tag, code_of};
 
-#[derive(Drop)]
+#[derive(Clone, Copy)]
 pub struct Primitive {
     pub primitive: u32,
 }
@@ -44,7 +44,7 @@ impl Primitive {
     pub const F64: u32 = 17;
 }
 
-#[derive(Drop)]
+#[derive(Clone, Copy)]
 pub struct Op {
     pub op: u32,
 }
@@ -80,7 +80,7 @@ impl Op {
 }
 
 // The calls that a word records.
-#[derive(Drop)]
+#[derive(Clone, Copy)]
 pub struct Call {
     pub call: u32,
 }

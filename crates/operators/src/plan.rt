@@ -5,7 +5,7 @@ ghost use Rattle.operators.specs.Operators.{accepted, refused};
 
 // The number is that of the refusal at the left node, or 0; the right side is checked against `right`, `result` is the operator's own type
 // and `call` what it stands for.
-#[derive(Drop)]
+#[derive(Clone, Copy)]
 pub struct OperatorPlan {
     pub number: u32,
     pub right: u32,

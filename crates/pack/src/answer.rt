@@ -5,7 +5,7 @@ ghost use Rattle.pack.specs.Answer.{refuse, needs};
 use crate::counts::Counts;
 use laws::Refusal;
 
-#[derive(Drop)]
+#[derive(Clone, Copy)]
 pub enum Reading {
     Pack(Counts),
     Refused(Refusal),

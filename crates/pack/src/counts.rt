@@ -5,7 +5,7 @@ ghost use Rattle.pack.specs.Counts.{none, in_limits, definitions_at, expressions
 
 use laws::both;
 
-#[derive(Drop)]
+#[derive(Clone, Copy)]
 pub struct Counts {
     pub types: u32,
     pub definitions: u32,

@@ -1,5 +1,7 @@
 // The rule pack as bytes: what stands in its header, in a row and in a list, and refusals 1 to 4.
 // Every reader is total: past the end of the bytes it reads 0, so no caller has to show that a row is there.
+#![tactic(auto)]
+
 mod answer;
 mod bytes;
 mod counts;

@@ -5,14 +5,14 @@ ghost use Rattle.pack.specs.Rows.{type_row, definition_row, expression_row, root
 use crate::bytes::{row_32, row_64};
 use crate::counts::{Counts, definitions_at, expressions_at, roots_at, values_at};
 
-#[derive(Drop)]
+#[derive(Clone, Copy)]
 pub struct TypeRow {
     pub kind: u32,
     pub a: u32,
     pub b: u32,
 }
 
-#[derive(Drop)]
+#[derive(Clone, Copy)]
 pub struct DefinitionRow {
     pub kind: u32,
     pub parameters: u32,
@@ -20,7 +20,7 @@ pub struct DefinitionRow {
     pub list: u32,
 }
 
-#[derive(Drop)]
+#[derive(Clone, Copy)]
 pub struct ExpressionRow {
     pub kind: u32,
     pub op: u32,
@@ -30,7 +30,7 @@ pub struct ExpressionRow {
     pub zero: u32,
 }
 
-#[derive(Drop)]
+#[derive(Clone, Copy)]
 pub struct RootRow {
     pub body: u32,
     pub returns: u32,
@@ -38,7 +38,7 @@ pub struct RootRow {
     pub zero: u32,
 }
 
-#[derive(Drop)]
+#[derive(Clone, Copy)]
 pub struct ValueRow {
     pub kind: u32,
     pub zero: u32,

@@ -1,7 +1,7 @@
 // What is said of a record expression.
 
 // The number of a refusal, 0 for none, and its detail.
-#[derive(Drop)]
+#[derive(Clone, Copy)]
 pub struct Fault {
     pub number: u32,
     pub detail: u64,

@@ -1,4 +1,6 @@
 // What module 4 of document 01 decides of a record without looking into its parts: refusals 31, 35 and 36.
+#![tactic(auto)]
+
 mod answer;
 mod records;
 

@@ -1,7 +1,7 @@
 // The cases one after the other: where the parts of a case stand.
 ghost use Rattle.std.specs.Prelude.{◌<◌};
 
-#[derive(Drop)]
+#[derive(Clone, Copy)]
 pub struct Case {
     pub entry: u64,
     pub root: u64,

@@ -8,6 +8,8 @@
 //     count 2, then as many times 4: a place in the area, in units of 2 bytes, and the 2 bytes that stand there after it
 //
 // All else of the area has to stay as it was. A line is written for each case that differs, and a last one with the sums.
+#![tactic(auto)]
+
 mod asks;
 mod cases;
 mod digits;

@@ -7,7 +7,7 @@ ghost use Rattle.report.specs.Kids.{most, kids_room, kid_at, block_kid, arm_kid,
 use pack::{Counts, ExpressionRow, list_item, list_len};
 
 // The kinds of expression rows.
-#[derive(Drop)]
+#[derive(Clone, Copy)]
 pub struct Node {
     pub kind: u32,
 }
@@ -33,7 +33,7 @@ impl Node {
 }
 
 // A child, where a place has one.
-#[derive(Drop)]
+#[derive(Clone, Copy)]
 pub enum Kid {
     Absent,
     Is(u32),

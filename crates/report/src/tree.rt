@@ -28,7 +28,7 @@ fn write_one(
 }
 
 // The trees of a row's children, so many levels.
-#[cycle(write_kids_write_tree)]
+#[cycle(tree)]
 fn write_kids(
     pack: &[u8],
     c: Counts,
@@ -58,7 +58,7 @@ fn write_kids(
 }
 
 // A node, then the trees of its children, so many levels.
-#[cycle(write_kids_write_tree)]
+#[cycle(tree)]
 fn write_tree(
     pack: &[u8],
     c: Counts,

@@ -1,4 +1,6 @@
 // Slots open and close while a root is checked: a slot is bound once in a root, and is open from there to the end of its scope.
+#![tactic(auto)]
+
 mod close;
 mod open;
 mod slots;

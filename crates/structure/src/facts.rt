@@ -15,7 +15,7 @@ use laws::flag;
 use pack::Counts;
 
 // The number of a list, and whether a type of it is marked (1 or 0).
-#[derive(Drop)]
+#[derive(Clone, Copy)]
 pub struct ListFacts {
     pub number: u32,
     pub held: u32,

@@ -13,7 +13,7 @@ use crate::words::look_at;
 
 // A row whose list looks the same, or i; and where a new list is to stand: the key under which it is a member, one more than the cell of
 // a new fork and its test, and 1 where it is the first of its sort. All are 0 where there is nothing to store.
-#[derive(Drop)]
+#[derive(Clone, Copy)]
 pub struct Found {
     pub row: u32,
     pub key: u32,

@@ -1,5 +1,7 @@
 // The type table by structure: rows equal in structure have one number, the smallest of them, so that two types are equal exactly if their
 // codes are; and which rows hold a variable.
+#![tactic(auto)]
+
 mod buckets;
 mod compare;
 mod facts;

@@ -11,7 +11,7 @@ use crate::table::{TypeTable, wide};
 use crate::words::look_at;
 
 // Where a walk ends.
-#[derive(Drop)]
+#[derive(Clone, Copy)]
 pub struct Stop {
     pub cell: u32,
     pub row: u32,

@@ -13,7 +13,7 @@ use crate::values::{Values, list_of, wide};
 use pack::{Counts, list_item, list_len};
 
 // Follows one reference, to w: a value not yet discovered is visited, and one on the stack is looked at.
-#[cycle(follow_follow_all_strongly_connect)]
+#[cycle(connect)]
 fn follow(
     pack: &[u8],
     c: Counts,
@@ -43,7 +43,7 @@ fn follow(
 }
 
 // Follows the references in the list at word s.
-#[cycle(follow_follow_all_strongly_connect)]
+#[cycle(connect)]
 fn follow_all(
     pack: &[u8],
     c: Counts,
@@ -70,7 +70,7 @@ fn follow_all(
 }
 
 // Visits v, which is not yet discovered.
-#[cycle(follow_follow_all_strongly_connect)]
+#[cycle(connect)]
 fn strongly_connect(
     pack: &[u8],
     c: Counts,

@@ -1,4 +1,6 @@
 // Tarjan's search over the values of a pack: their listing, and the size of each value's component.
+#![tactic(auto)]
+
 mod connect;
 mod search;
 mod stack;

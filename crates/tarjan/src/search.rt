@@ -5,7 +5,7 @@ ghost use Rattle.tarjan.specs.Search.{lowered, Pops, Popped};
 use crate::values::Values;
 
 // The lowest index met, how many values are discovered, where the stack's top stands, and how many values are listed.
-#[derive(Drop)]
+#[derive(Clone, Copy)]
 pub struct Run {
     pub low: u32,
     pub next: u32,

@@ -28,7 +28,7 @@ impl Notes {
 }
 
 // What the items of a list name.
-#[derive(Drop)]
+#[derive(Clone, Copy)]
 pub enum Kids {
     // Each item a child.
     Items,

@@ -1,4 +1,6 @@
 // Module 3: no definition has an unresolved variable in a field, and none holds itself.
+#![tactic(auto)]
+
 mod cycles;
 mod marks;
 mod searches;

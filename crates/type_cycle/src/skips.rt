@@ -22,7 +22,7 @@ impl Skips {
 }
 
 // What the items of a list are.
-#[derive(Drop)]
+#[derive(Clone, Copy)]
 pub enum Listed {
     // A type each.
     Types,

@@ -11,7 +11,7 @@ use crate::skips::{Listed, Skips, is_variants, pass, set_skip, skip_at, word_in}
 use pack::{TypeRow, type_row};
 
 // A definition: its fields, once. It is listed when it is left. n are listed before; answers how many are afterwards.
-#[cycle(visit_visit_fields_visit_item_visit_list_visit_name_visit_row)]
+#[cycle(visits)]
 pub fn visit_name(
     pack: &[u8],
     c: &[u32; Sizes::CAPACITY],
@@ -35,7 +35,7 @@ pub fn visit_name(
 }
 
 // The types of a definition's fields. Runtime and list definitions have none.
-#[cycle(visit_visit_fields_visit_item_visit_list_visit_name_visit_row)]
+#[cycle(visits)]
 pub fn visit_fields(
     pack: &[u8],
     c: &[u32; Sizes::CAPACITY],
@@ -58,7 +58,7 @@ pub fn visit_fields(
 }
 
 // What the items of the list at s name, in their order.
-#[cycle(visit_visit_fields_visit_item_visit_list_visit_name_visit_row)]
+#[cycle(visits)]
 fn visit_list(
     pack: &[u8],
     c: &[u32; Sizes::CAPACITY],
@@ -101,7 +101,7 @@ fn is_passed(
 }
 
 // What item k names. A type is visited from here alone, so that a record in a record takes one frame of the stack.
-#[cycle(visit_visit_fields_visit_item_visit_list_visit_name_visit_row)]
+#[cycle(visits)]
 fn visit_item(
     pack: &[u8],
     c: &[u32; Sizes::CAPACITY],
@@ -128,7 +128,7 @@ fn visit_item(
 }
 
 // A type, once.
-#[cycle(visit_visit_fields_visit_item_visit_list_visit_name_visit_row)]
+#[cycle(visits)]
 fn visit(
     pack: &[u8],
     c: &[u32; Sizes::CAPACITY],
@@ -152,7 +152,7 @@ fn visit(
 }
 
 // What a type's row leads to: a named type to its definition, a record to its parts, a variable to the mark that says so.
-#[cycle(visit_visit_fields_visit_item_visit_list_visit_name_visit_row)]
+#[cycle(visits)]
 fn visit_row(
     pack: &[u8],
     c: &[u32; Sizes::CAPACITY],

@@ -1,5 +1,7 @@
 // Unify: module 2 of document 01, over type codes.
 // Rows of equal structure have one number, so two types are equal exactly if their codes are.
+#![tactic(auto)]
+
 mod classes;
 mod plan;
 mod sides;

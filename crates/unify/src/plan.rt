@@ -8,7 +8,7 @@ use laws::either;
 use structure::{TypeTable, holds_var};
 use unionfind::{Tag, number_of, tag_of};
 
-#[derive(Drop)]
+#[derive(Clone, Copy)]
 pub enum Plan {
     Same,
     Clash,

@@ -37,7 +37,7 @@ unfolding trail_in pick
 trail_in_lem zero (stop h e) l = absurd (not-suc-le-zero l)
 trail_in_lem zero (step h e c) l = absurd (not-suc-le-zero l)
 trail_in_lem (suc f) (stop h e) l = rw e
-trail_in_lem (suc f) (step h e c) l = rw (e, trail_in_lem f c (le_of_suc-le-suc l))
+trail_in_lem {xs = xs} {v = v} (suc f) (step h e c) l = rw (e, trail_in_lem {v = number (get_or xs v 0)} f c (le_of_suc-le-suc l))
 
 -- the first cell is among those passed
 pub head_among : {xs : List ℕ} {v : ℕ} {t : List ℕ} → Chain xs v t → among v t ≡ true
@@ -115,7 +115,7 @@ links_bound : {xs : List ℕ} {v : ℕ} {t : List ℕ} (f : ℕ) → Chain xs v 
 links_bound zero (stop h e) l = absurd (not-suc-le-zero l)
 links_bound zero (step h e c) l = absurd (not-suc-le-zero l)
 links_bound (suc f) (stop h e) l = omega arith
-links_bound {xs = xs} (suc f) (step {v = v} {t = t} h e c) l = go (among v t) refl (λ d. links_bound f d (le_of_suc-le-suc l))
+links_bound {xs = xs} (suc f) (step {v = v} {t = t} h e c) l = go (among v t) refl (λ d. links_bound {xs = set xs v 0} f d (le_of_suc-le-suc l))
   where
     go : (b : Bool) → among v t ≡ b → (Chain (set xs v 0) (number (get_or xs v 0)) t → length t ≤ suc (links 0 (set xs v 0))) → suc (length t) ≤ suc (links 0 xs)
     go true p ih =

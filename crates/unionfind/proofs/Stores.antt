@@ -10,7 +10,7 @@
 -- Assumes nothing.
 use mathlib.Core.Path.{◌≡◌, refl, sym, ap, ◌∙◌}
 use mathlib.Core.List.{List, [], ◌∷◌}
-use mathlib.Core.Bool.{Bool, true, false, not, ◌&&◌, ◌||◌, and-false, or_true}
+use mathlib.Core.Bool.{Bool, true, false, not, ◌&&◌, ◌||◌, and-false, or-true}
 use Prim.Native.Nat.{ℕ, ◌<◌, ◌≤◌}
 use native.Mathlib.Omega.{arith}
 use lib.ListN.{length, get_or, set, length-set}
@@ -211,7 +211,8 @@ end_among {xs = xs} s v h p = rw (is_trail s.size (s.ends v h).1) (go (s.ends v 
         rw (own_name v (found xs v) p (rw f e), eq-eqb v v refl)
     go (step {v = v} {t = t} h e c) p =
         let f : found xs v ≡ found xs (number (get_or xs v 0)) = (linked s.size h e c).finds in
-        rw (f, go c (rw f at p)) (or_true (eqb v (number (found xs (number (get_or xs v 0))))))
+        let r : among (number (found xs v)) t ≡ true = rw f (go c (rw f at p)) in
+        rw r (or-true (eqb v (number (found xs v))))
 
 -- ---- what resolved to the same thing still does
 

@@ -4,13 +4,13 @@ ghost use Rattle.unionfind.specs.Answers.{full, unknown, closes};
 
 use laws::Refusal;
 
-#[derive(Drop)]
+#[derive(Clone, Copy)]
 pub enum Answer {
     Done,
     Refused(Refusal),
 }
 
-#[derive(Drop)]
+#[derive(Clone, Copy)]
 pub enum Made {
     Code(u32),
     Refused(Refusal),

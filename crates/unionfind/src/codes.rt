@@ -6,7 +6,7 @@ ghost use Rattle.unionfind.specs.Codes.{numbers, code, tag, number, is_var, tag_
 
 use laws::either;
 
-#[derive(Drop)]
+#[derive(Clone, Copy)]
 pub struct Tag {
     pub tag: u32,
 }
@@ -33,7 +33,7 @@ impl Tag {
 }
 
 // The kinds of variable that are made: 7, 8 and 9 of a type row.
-#[derive(Drop)]
+#[derive(Clone, Copy)]
 pub enum Kind {
     Var,
     IntVar,

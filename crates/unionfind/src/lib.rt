@@ -1,5 +1,7 @@
 // Union-find over type codes: module 1 of document 01.
 // The cells are lent, as `&mut u.cells`; how many variables are in use goes beside them, by value.
+#![tactic(auto)]
+
 mod answer;
 mod cells;
 mod chain;

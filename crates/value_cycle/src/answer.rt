@@ -4,7 +4,7 @@ ghost use Rattle.value_cycle.specs.Order.{refusal};
 
 use laws::Refusal;
 
-#[derive(Drop)]
+#[derive(Clone, Copy)]
 pub enum Order {
     Listed,
     Refused(Refusal),

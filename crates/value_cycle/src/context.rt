@@ -13,7 +13,7 @@ use tarjan::{Values, list_of};
 // Whether v is a context value or reaches one.
 // A value that was visited is asked no further. While its own references are still being asked, that alone settles nothing. But the
 // first answer that is true ends the whole search, so where the search goes on, no visited value reaches a context value.
-#[cycle(any_uses_context_determine_uses_context)]
+#[cycle(context)]
 fn determine_uses_context(
     pack: &[u8],
     c: Counts,
@@ -37,7 +37,7 @@ fn determine_uses_context(
 }
 
 // Whether one of the list at word s does.
-#[cycle(any_uses_context_determine_uses_context)]
+#[cycle(context)]
 fn any_uses_context(pack: &[u8], c: Counts, visited: &mut [u8; Values::CAPACITY], s: u32) -> bool
     requires { InRange pack.now c × Sized visited.old × ((w : ℕ) → In w (items_of pack.now c s) → w < c.values) }
     ensures { SeeksIn pack.now c visited.old (items_of pack.now c s) result visited.new }

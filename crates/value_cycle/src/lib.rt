@@ -1,4 +1,6 @@
 // "5. Order": in which order constants and functions are compiled, or why there is no such order.
+#![tactic(auto)]
+
 mod answer;
 mod area;
 mod context;

@@ -1,4 +1,6 @@
 // What is recorded of each node while a root is checked, and the words that a report writes of it.
+#![tactic(auto)]
+
 mod area;
 mod nodes;
 mod notes;

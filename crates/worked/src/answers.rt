@@ -5,7 +5,7 @@ ghost use Rattle.worked.specs.Answers.{numbers_of, same};
 use laws::both;
 use pack::Reading;
 
-#[derive(Drop)]
+#[derive(Clone, Copy)]
 pub struct Answer {
     pub number: u64,
     pub place: u64,

@@ -3,7 +3,7 @@ use crate::rising::{can_rise, put_rising};
 use crate::tokens::{decimal, digit, find, is_hex, is_number};
 
 // How many bytes the pack has after a word, or that the word is not one of bytes.
-#[derive(Drop)]
+#[derive(Clone, Copy)]
 pub enum Grown {
     To(usize),
     Nothing,

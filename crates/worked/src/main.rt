@@ -18,6 +18,8 @@
 //
 // It writes a line for each group, and a last one with the sums. An answer that differs, and a word that is none of
 // these, has a line of its own before them, with its line in the text.
+#![tactic(auto)]
+
 mod answers;
 mod asks;
 mod build;

@@ -25,7 +25,7 @@ pub const ROOT: u32 = 2;
 
 pub const ORDER: u32 = 3;
 
-#[derive(Drop)]
+#[derive(Clone, Copy)]
 pub struct Run {
     pub next: u32,
     // Where the group's name stands in the text.

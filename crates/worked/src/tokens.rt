@@ -4,7 +4,7 @@ ghost use Rattle.std.specs.Prelude.{◌<◌, ◌≤◌, length};
 use check::same;
 
 // What a word says comes, or that it is none of these.
-#[derive(Drop)]
+#[derive(Clone, Copy)]
 pub enum Word {
     Group,
     Case,

@@ -1,5 +1,7 @@
 // Runs cases of union-find and unify, and says how many answers are not the ones that document 01 gives.
 // It writes a line for each group, and a last one with the sums.
+#![tactic(auto)]
+
 mod answers;
 mod chain;
 mod pairs;

@@ -1,6 +1,6 @@
 // How many cases were run, and how many answers differ from what is wanted.
 
-#[derive(Drop)]
+#[derive(Clone, Copy)]
 pub struct Tally {
     pub cases: u64,
     pub differ: u64,

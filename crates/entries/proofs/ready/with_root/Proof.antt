@@ -1,6 +1,6 @@
 -- The code's tests are the definition's, and each side is what its call ensured.
 use Rattle.laws.proofs.Choice.{yes, no}
-use Rattle.pack.specs.Answer.{rules as answers}
+use Rattle.pack.specs.Answer.{needs as answers}
 use borrow.Author.Tests.{lt-ltb, le-ltb}
 use borrow.Author.Rules.{rules}
 use Rattle.entries.proofs.ready.with_root.Statement.{statement}

@@ -1,0 +1,24 @@
+use native.Mathlib.Omega.{arith}
+use Rattle.unionfind.proofs.Steps.{onward, finds_on, finds_here}
+use Rattle.unionfind.proofs.chain.+find.Goals as goal
+
+pub offset_bounds-cells-v : goal.offset_bounds-cells-v
+offset_bounds-cells-v t c = omega (arith, c.requires.0)
+
+pub bounds-cells-v : goal.bounds-cells-v
+bounds-cells-v t c = c.requires.0
+
+pub find-root-requires : goal.find-root-requires
+find-root-requires t c = onward c.requires.1 _ c.requires.0 _ c.is_link.ensures c.number_of.ensures c.decreases c.if-is_link.true
+
+pub offset_bounds-cells-v-then-is_link : goal.offset_bounds-cells-v-then-is_link
+offset_bounds-cells-v-then-is_link t c = omega (arith, c.requires.0)
+
+pub bounds-cells-v-then-is_link : goal.bounds-cells-v-then-is_link
+bounds-cells-v-then-is_link t c = c.requires.0
+
+pub returns-then-is_link : goal.returns-then-is_link
+returns-then-is_link t c = finds_on c.requires.1 _ c.requires.0 _ c.is_link.ensures c.number_of.ensures c.if-is_link.true c.find-root.ensures
+
+pub returns-else-is_link : goal.returns-else-is_link
+returns-else-is_link t c = finds_here c.requires.1 _ c.requires.0 _ c.is_link.ensures c.if-is_link.false

@@ -1,0 +1,51 @@
+use mathlib.Core.Path.{refl, sym, ◌∙◌}
+use mathlib.Core.Logic.{⊎_elim}
+use Rattle.laws.specs.Choice.{pick}
+use Rattle.laws.proofs.Told.{le, nle}
+use Rattle.unionfind.specs.Answers.{set_answer}
+use Rattle.unionfind.proofs.States.{sets, refuses}
+use Rattle.unionfind.proofs.Stores.{no_var_no_link}
+use Rattle.unionfind.proofs.store.set.Goals as goal
+
+-- `set`: each way to an answer has the tests that give it, and `sets` turns the answer into the rest of the contract.
+pub returns-then-n-v : goal.returns-then-n-v
+unfolding set_answer pick
+returns-then-n-v c = refuses c.requires.1 _ _ _ c.requires.0 c.unknown_var.ensures (rw (le refl refl c.if-n-v.true))
+
+pub returns-then-n-w : goal.returns-then-n-w
+unfolding set_answer pick
+returns-then-n-w c = refuses c.requires.1 _ _ _ c.requires.0 c.unknown_var-then-n-w.ensures
+    (rw (
+      nle refl refl c.if-n-v.false,
+      sym c.is_var.ensures ∙ c.if-is_var.true,
+      le refl c.number_of-w.ensures c.if-n-w.true,
+      c.number_of-w.ensures,
+    ))
+
+pub returns-then-passes : goal.returns-then-passes
+unfolding set_answer pick
+returns-then-passes c = refuses c.requires.1 _ _ _ c.requires.0 c.closes_loop.ensures
+    (rw (
+      nle refl refl c.if-n-v.false,
+      sym c.is_var.ensures ∙ c.if-is_var.true,
+      nle refl c.number_of-w.ensures c.if-n-w.false,
+      sym c.is_link.ensures ∙ c.if-is_link.true,
+      sym (rw c.number_of-w.ensures at c.passes.ensures) ∙ c.if-passes.true,
+    ))
+
+pub returns : goal.returns
+unfolding set_answer pick
+returns c = sets c.requires.1 _ _ _ c.requires.0
+    (rw (nle refl refl c.if-n-v.false)
+    (⊎_elim
+    (λ w.
+    rw (
+      sym c.is_var.ensures ∙ w.0.taken,
+      nle refl w.1.ensures w.2.left,
+      sym w.3.ensures ∙ w.4.taken,
+      sym (rw w.1.ensures at w.6.ensures) ∙ w.7.left,
+    ))
+    (⊎_elim
+    (λ w. rw (sym c.is_var.ensures ∙ w.0.taken, nle refl w.1.ensures w.2.left, sym w.3.ensures ∙ w.4.left))
+    (λ w. let e = sym c.is_var.ensures ∙ w.left in rw (e, no_var_no_link _ _ e)))
+    c.if-is_var.branch))
