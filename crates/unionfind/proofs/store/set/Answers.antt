@@ -1,11 +1,11 @@
 use mathlib.Core.Path.{refl, sym, ◌∙◌}
-use mathlib.Core.Logic.{⊎_elim}
 use Rattle.laws.specs.Choice.{pick}
 use Rattle.laws.proofs.Told.{le, nle}
 use Rattle.unionfind.specs.Answers.{set_answer}
 use Rattle.unionfind.proofs.States.{sets, refuses}
 use Rattle.unionfind.proofs.Stores.{no_var_no_link}
 use Rattle.unionfind.proofs.store.set.Goals as goal
+use Rattle.unionfind.proofs.store.set.Goals.{then-is_var+else-n-w+then-is_link+else-passes, then-is_var+else-n-w+else-is_link, else-is_var}
 
 -- `set`: each way to an answer has the tests that give it, and `sets` turns the answer into the rest of the contract.
 pub returns-then-n-v : goal.returns-then-n-v
@@ -37,15 +37,15 @@ pub returns : goal.returns
 unfolding set_answer pick
 returns c = sets c.requires.1 _ _ _ c.requires.0
     (rw (nle refl refl c.if-n-v.false)
-    (⊎_elim
-    (λ w.
-    rw (
-      sym c.is_var.ensures ∙ w.0.taken,
-      nle refl w.1.ensures w.2.left,
-      sym w.3.ensures ∙ w.4.taken,
-      sym (rw w.1.ensures at w.6.ensures) ∙ w.7.left,
-    ))
-    (⊎_elim
-    (λ w. rw (sym c.is_var.ensures ∙ w.0.taken, nle refl w.1.ensures w.2.left, sym w.3.ensures ∙ w.4.left))
-    (λ w. let e = sym c.is_var.ensures ∙ w.left in rw (e, no_var_no_link _ _ e)))
-    c.if-is_var.branch))
+    (elim c.if-is_var.branch [
+      then-is_var+else-n-w+then-is_link+else-passes w ↦
+        rw (
+          sym c.is_var.ensures ∙ w.if-is_var.true,
+          nle refl w.number_of-w.ensures w.if-n-w.false,
+          sym w.is_link.ensures ∙ w.if-is_link.true,
+          sym (rw w.number_of-w.ensures at w.passes.ensures) ∙ w.if-passes.false,
+        )
+    | then-is_var+else-n-w+else-is_link w ↦
+        rw (sym c.is_var.ensures ∙ w.if-is_var.true, nle refl w.number_of-w.ensures w.if-n-w.false, sym w.is_link.ensures ∙ w.if-is_link.false)
+    | else-is_var w ↦
+        let e = sym c.is_var.ensures ∙ w.if-is_var.false in rw (e, no_var_no_link _ _ e) ]))
