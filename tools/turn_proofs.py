@@ -55,6 +55,9 @@ def declarations(text):
             if cur is None:
                 notes.append(line)
                 continue
+        if cur is None and line.startswith(" ") and decls:
+            cur = decls.pop()
+            cur["lines"].append("")
         if cur is None:
             cur = {"notes": notes if decls or head else [], "lines": []}
             if notes and not cur["notes"]:
@@ -233,13 +236,7 @@ def turn(path, info, module, say):
         whole = "\n".join(lines)
         bodies = "".join(re.findall("\0(.*)", whole))
         place = t.at.get(new) or t.place_of(bodies)
-        out = []
-        for l in lines:
-            if "\0" in l:
-                a, b = l.split("\0", 1)
-                out.append(a + rewrite(t, b, place, f"{new}"))
-            else:
-                out.append(l)
+        out = turned_lines(t, lines, place, new)
         if new in used:
             said(f"{new} is answered twice")
         used.add(new)
@@ -334,6 +331,33 @@ def turn(path, info, module, say):
         with open(os.path.join(folder, "Answers.antt"), "w", encoding="utf-8") as f:
             f.write("\n".join(([] if inv_out else notes) + body) + "\n" + "".join("\n" + "\n".join(b) + "\n" for b in other_blocks + answers))
     os.remove(path)
+
+
+def turned_lines(t, lines, place, where):
+    out, body = [], None
+    for l in lines:
+        if "\0" in l:
+            a, b = l.split("\0", 1)
+            if body is None:
+                out.append(a)
+                body = [b]
+            else:
+                body.append(b)
+        else:
+            out.append(l)
+    text = rewrite(t, opened("\n".join(body)), place, where)
+    out[-1] += text
+    return "\n".join(out).split("\n")
+
+
+def opened(text):
+    """let l = c.before.before in .. l.x .. -> .. c.before.before.x .."""
+    while True:
+        m = re.search(r"let (\S+) = (c(?:\.before)+) in\s*", text)
+        if not m:
+            return text
+        text = text[: m.start()] + text[m.end() :]
+        text = re.sub(r"(?<![\w'.-])" + re.escape(m.group(1)) + r"\.", m.group(2) + ".", text)
 
 
 def rewrite(t, text, place, where):
@@ -469,13 +493,7 @@ def turn_cycle(folder, names, crate, module, say):
                     m = re.match(re.escape(d["name"]) + r"\s+c(?:\s+κs)?\s*=\s*(.*)$", l)
                     lines.append(f"{new} t c = \0{m.group(1)}" if m else "\0" + l)
                 place = t.at.get(new)
-                out = []
-                for l in lines:
-                    if "\0" in l:
-                        a, b = l.split("\0", 1)
-                        out.append(a + rewrite(t, b, place, f"{fn} {new}"))
-                    else:
-                        out.append(l)
+                out = turned_lines(t, lines, place, f"{fn} {new}")
                 used.add(new)
                 only = re.sub(r"^.*? = ", "", out[-1])
                 if not (len(out) == 1 and only.strip() in ("search rules", "tt")):
@@ -524,7 +542,7 @@ def write_cycle(folder, names, crate, module, say):
         sub = dict(zip(params, values))
         text = "\n".join([m.group(3)] + lines[clause + 1 :])
         text = re.sub(r"(?<![^\s(),;{}])(" + "|".join(re.escape(p) for p in sorted(params, key=len, reverse=True)) + r")(?![^\s(),;{}.])", lambda mm: sub.get(mm.group(1), mm.group(1)), text)
-        name = f"{kind}-{new}"
+        name = f"{kind}-{new}" if len(measures) == 1 else f"{kind}-{fn}-{new}"
         blocks.append([f"abbrev pub {name} : goal.{name}"] + lines[:clause] + [f"{name} l = {text}"])
     with open(os.path.join(folder, "Invariants.antt"), "w", encoding="utf-8") as f:
         f.write("\n".join([n for n in notes if "answers of" not in n] + cited(uses, blocks) + [f"use Rattle.{crate}.proofs.{module}.Given as goal"]) + "\n" + "".join("\n" + "\n".join(b) + "\n" for b in blocks))

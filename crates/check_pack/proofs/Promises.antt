@@ -19,7 +19,7 @@ use Rattle.formed.specs.Formed.{formed_of}
 use Rattle.expr.specs.Root.{root_answer}
 use Rattle.expr.specs.declared.answer.Checked.{Checked}
 use Rattle.expr.specs.declared.answer.Checked.TheVariants as checked
-use Rattle.value_cycle.specs.Order.{order_of as listingOf}
+use Rattle.value_cycle.specs.Order.{order_of as listing_of}
 use Rattle.value_cycle.specs.declared.answer.Order.{Order}
 use Rattle.value_cycle.specs.declared.answer.Order.TheVariants as order
 use Rattle.entries.specs.Answers.{Told, Result, result, report, refusal, reading_told, checked_told, order_told}
@@ -112,18 +112,18 @@ module _ (p area : List ℕ) (c : Counts) (e : types_answer p ≡ Pack c) (l : 2
   unfolding roots_answer
   all_pass q = passing c.roots (omega arith) (λ i b. each fine (root_answer p c) checked.Report accepted (λ k f. f) c.roots 0 (ap accepted q) i (omega arith) b)
 
-  ordered_is : order_of p area ≡ order_result (listingOf p c area)
+  ordered_is : order_of p area ≡ order_result (listing_of p c area)
   ordered_is = order_goes p area c (formed_ready p (length area) c well (has_room p area c well l).long)
 
   -- the last part
-  order_says : roots_answer p c ≡ checked.Report → (a : Order) → (listingOf p c area).answer ≡ a → EntriesSay p area (listingOf p c area).area (order_verdict c a)
-  order_says q order.Listed s = passed c (ap reading_told e) (all_pass q) (ordered_is ∙ ap (λ (o : Order). result (order_told o) (listingOf p c area).area) s)
-  order_says q (order.Refused r) s = no_order c r (ap reading_told e) (all_pass q) (ordered_is ∙ ap (λ (o : Order). result (order_told o) (listingOf p c area).area) s)
+  order_says : roots_answer p c ≡ checked.Report → (a : Order) → (listing_of p c area).answer ≡ a → EntriesSay p area (listing_of p c area).area (order_verdict c a)
+  order_says q order.Listed s = passed c (ap reading_told e) (all_pass q) (ordered_is ∙ ap (λ (o : Order). result (order_told o) (listing_of p c area).area) s)
+  order_says q (order.Refused r) s = no_order c r (ap reading_told e) (all_pass q) (ordered_is ∙ ap (λ (o : Order). result (order_told o) (listing_of p c area).area) s)
 
   rest_says : EntriesSay p area (roots_part p c area).area (roots_part p c area).verdict
   rest_says =
       by_checked (roots_answer p c)
-      (λ q. subst (λ (a : Checked). EntriesSay p area (after_roots p c area a).area (after_roots p c area a).verdict) (sym q) (order_says q (listingOf p c area).answer refl))
+      (λ q. subst (λ (a : Checked). EntriesSay p area (after_roots p c area a).area (after_roots p c area a).verdict) (sym q) (order_says q (listing_of p c area).answer refl))
       (λ r q. subst (λ (a : Checked). EntriesSay p area (after_roots p c area a).area (after_roots p c area a).verdict) (sym q) (no_root c r (ap reading_told e) (first_refused r q)))
 
 -- The verdict is what the entries answer.

@@ -34,7 +34,7 @@ use Rattle.type_cycle.proofs.Promises.{says}
 use Rattle.components.specs.Account.{Lists, Orderable, Refuses, is₅₀, is₅₁, is₅₂}
 use Rattle.tarjan.specs.Values.{kind_of}
 use Rattle.value_cycle.specs.Area.{read_back}
-use Rattle.value_cycle.specs.Order.{Outcome, order_of as listingOf}
+use Rattle.value_cycle.specs.Order.{Outcome, order_of as listing_of}
 use Rattle.value_cycle.specs.declared.answer.Order.{Order}
 use Rattle.value_cycle.specs.declared.answer.Order.TheVariants as order
 use Rattle.value_cycle.proofs.Promises.{Promised}
@@ -212,7 +212,7 @@ unfolding order_answer
 order_stops p area r e = ap (λ (a : Reading). order_result (ordered p area a)) e
 
 module _ (p area : List ℕ) (c : Counts) where
-  pub order_goes : ready_to_order p (length area) ≡ Pack c → order_of p area ≡ order_result (listingOf p c area)
+  pub order_goes : ready_to_order p (length area) ≡ Pack c → order_of p area ≡ order_result (listing_of p c area)
   unfolding order_answer
   order_goes e = ap (λ (a : Reading). order_result (ordered p area a)) e
 
@@ -256,7 +256,7 @@ module _ (p area : List ℕ) (c : Counts) where
           refused_not n h q = let z : In 0 (6 ∷ 50 ∷ 51 ∷ 52 ∷ []) = subst (λ (x : ℕ). In x (6 ∷ 50 ∷ 51 ∷ 52 ∷ [])) q h in omega arith
 
   pub order_says : formed_of p ≡ Pack c → 2 * c.values ≤ length area → OrderSays p c (order_of p area)
-  order_says e l = subst (OrderSays p c) (sym (order_goes (formed_ready p (length area) c e l))) (told_says (listingOf p c area) (promised_of_formed p c area e l) (listingOf p c area).answer refl)
+  order_says e l = subst (OrderSays p c) (sym (order_goes (formed_ready p (length area) c e l))) (told_says (listing_of p c area) (promised_of_formed p c area e l) (listing_of p c area).answer refl)
 
 -- The bytes that an order may write: two for each value, from byte 0 on.
 pub order_ends : (p area : List ℕ) → Leaves of_order (λ i. i < 2 * (counts_of p).values) area (order_of p area)
@@ -265,6 +265,6 @@ order_ends p area =
     (λ c e.
     let ready = order_ready p (length area) c e in
     subst (λ (k : Counts). Leaves of_order (λ i. i < 2 * k.values) area (order_of p area)) (counts_are p c ready.0)
-    (subst (Leaves of_order (λ i. i < 2 * c.values) area) (sym (order_goes p area c e)) (told_ends p area c (listingOf p c area) (promised_of_formed p c area ready.0 ready.1) (listingOf p c area).answer refl)))
+    (subst (Leaves of_order (λ i. i < 2 * c.values) area) (sym (order_goes p area c e)) (told_ends p area c (listing_of p c area) (promised_of_formed p c area ready.0 ready.1) (listing_of p c area).answer refl)))
     (λ r e.
     subst (Leaves of_order (λ i. i < 2 * (counts_of p).values) area) (sym (order_stops p area r e)) (refuses ((ready_order_numbers p (length area)).inside r e) refl))

@@ -34,9 +34,9 @@ use Rattle.components.specs.Answers.{any, found, first₅₀, first₅₁, first
 use Rattle.components.specs.DepthFirst.{meet, meet_all, enter, reached}
 use Rattle.components.specs.Tarjan.{follow, follow_all, leave, strong_connect, tarjan}
 use Rattle.value_cycle.specs.Area.{bytes_of, written}
-use Rattle.value_cycle.specs.Order.{answered, order_of as listingOf}
+use Rattle.value_cycle.specs.Order.{answered, order_of as listing_of}
 use Rattle.unionfind.specs.Answers.{selves, set_answer, fresh_answer}
-use Rattle.unionfind.specs.Cells.{is_link, trail_in, trail, found as foundIn, compressed}
+use Rattle.unionfind.specs.Cells.{is_link, trail_in, trail, found as found_in, compressed}
 use Rattle.unionfind.specs.Codes.{is_var}
 use Rattle.structure.specs.Structure.{numbered, number_of, paired, names_of, pairwise, alike, equal_in, equal, row_number, is_var_kind, any_of, holds_in, holds}
 use Rattle.structure.specs.Types.{var_code, plain_code, is_bare, code_for, code_of, code_in, holds_var}
@@ -46,7 +46,7 @@ use Rattle.operators.specs.Operators.{compared, number, added, divided, remainde
 use Rattle.members.specs.Lookup.{is_member, member_of}
 use Rattle.members.specs.Marks.{is_marked, any_marked, any_field_marked}
 use Rattle.names.specs.Tally.{tally}
-use Rattle.members.specs.Places.{any as anyPlace}
+use Rattle.members.specs.Places.{any as any_place}
 use Rattle.members.specs.Types.{is_row, named_by, is_list}
 use Rattle.arms.specs.Match.{subject_for, subject_of, payload_fault, arm_fault, covers, covered, missing_variants}
 use Rattle.slots.specs.Slots.{opened, open_all, open_list, open_pairs, shut, close_list, let_slot, close_lets}
@@ -54,7 +54,7 @@ use Rattle.words.specs.Notes.{note_of, code_noted, call_noted, diverges_noted, i
 use Rattle.words.specs.Words.{encode, word_byte, put_word, word_of, seen_ids, put_words, words_area}
 use Rattle.expr.specs.Rules.{literal_code, recorded, sealed, bare_rule, literal_rule, slot_rule, bool_first, operand_type, result_last, right_rule, operator_rule, guard_rule, payload_opens, payload_closes, body_rule, arm_rule, ends_arms, arms_rule, cases_rule, match_rule, kind_rule, node_rule, expr_rule}
 use Rattle.expr.specs.State.{◌then◌, ◌gives◌, resolving, fresh_type, unify_step}
-use Rattle.expr.specs.Root.{same_of, marks_of, root_rule as checkRule, root_answer_in, root_area_in}
+use Rattle.expr.specs.Root.{same_of, marks_of, root_rule as check_rule, root_answer_in, root_area_in}
 use Rattle.entries.specs.Answers.{Told, told, Result, result}
 use Rattle.entries.specs.Ready.{ready_to_check, ready_to_order}
 use Rattle.entries.specs.Types.{types_answer, types_of}
@@ -157,12 +157,12 @@ unfolding
     list_fits ids_fit items_fit names_differ items_rise primitive type_known named_fits type_in_range type_distinct type_rule definition_kind definition_known definition_in_range definition_distinct definition_rule unused kind_known expression_known expression_in_range expression_rule root_in_range root_rule value_rule row_rule table_of rows_of
     bodies_of uses_of stated_of parent_of depth_in depth_of node_fits nodes_of trees_of body_of formed_of
     over none_of inside types_in names_in resolved leads on_cycle unresolved_of cycle_of type_cycles_of
-    any found first₅₀ first₅₁ first₅₂ answer meet meet_all enter reached follow follow_all leave strong_connect tarjan bytes_of written answered listingOf
-    letting get put selves set_answer fresh_answer is_link trail_in trail foundIn compressed is_var numbered number_of paired names_of pairwise alike equal_in equal row_number is_var_kind any_of holds_in holds var_code plain_code is_bare code_for code_of code_in holds_var
+    any found first₅₀ first₅₁ first₅₂ answer meet meet_all enter reached follow follow_all leave strong_connect tarjan bytes_of written answered listing_of
+    letting get put selves set_answer fresh_answer is_link trail_in trail found_in compressed is_var numbered number_of paired names_of pairwise alike equal_in equal row_number is_var_kind any_of holds_in holds var_code plain_code is_bare code_for code_of code_in holds_var
     primitive_in is_int is_float is_numeric takes resolve_of settled number_plan any_plan plan_of unify_answer unify_cells compared number added divided remainder power operator_plan
-    pair_of is_member member_of is_marked any_marked any_field_marked subject_for subject_of payload_fault arm_fault covers covered missing_variants anyPlace tally is_row named_by is_list
+    pair_of is_member member_of is_marked any_marked any_field_marked subject_for subject_of payload_fault arm_fault covers covered missing_variants any_place tally is_row named_by is_list
     opened open_all open_list open_pairs shut close_list let_slot close_lets note_of code_noted call_noted diverges_noted is_seen encode word_byte put_word word_of seen_ids put_words words_area
     literal_code recorded sealed bare_rule literal_rule slot_rule bool_first operand_type result_last right_rule operator_rule guard_rule payload_opens payload_closes body_rule arm_rule ends_arms arms_rule cases_rule match_rule kind_rule node_rule expr_rule
-    ◌then◌ ◌gives◌ resolving fresh_type unify_step same_of marks_of checkRule root_answer_in root_area_in
+    ◌then◌ ◌gives◌ resolving fresh_type unify_step same_of marks_of check_rule root_answer_in root_area_in
     ready_to_check ready_to_order types_answer root_checked order_answer
 worked = refl

@@ -2,14 +2,14 @@
 use Rattle.std.specs.Prelude.{ℕ, List, length}
 use Rattle.pack.specs.declared.answer.Reading.{Reading}
 use Rattle.pack.specs.declared.answer.Reading.TheVariants.{Pack, Refused}
-use Rattle.value_cycle.specs.Order.{Outcome, outcome, order_of as listingOf}
+use Rattle.value_cycle.specs.Order.{Outcome, outcome, order_of as listing_of}
 use Rattle.value_cycle.specs.declared.answer.Order.TheVariants as order
 use Rattle.entries.specs.Answers.{Result, result, order_told}
 use Rattle.entries.specs.Ready.{ready_to_order}
 
 -- "A refusal leaves the result area unchanged."
 abbrev pub ordered : List ℕ → List ℕ → Reading → Outcome
-ordered p area (Pack c) = listingOf p c area
+ordered p area (Pack c) = listing_of p c area
 ordered p area (Refused r) = outcome (order.Refused r) area
 
 unfoldable pub order_answer : List ℕ → List ℕ → Outcome

@@ -9,7 +9,7 @@ use Rattle.structure.specs.Types.{code_in}
 use Rattle.names.specs.Index.{Indexed}
 use Rattle.members.specs.Lookup.{member_of}
 use Rattle.members.specs.Marks.{is_marked}
-use Rattle.slots.specs.Slots.{slots as slotCount}
+use Rattle.slots.specs.Slots.{slots as slot_count}
 use Rattle.unionfind.specs.Codes.{codes}
 use Rattle.words.specs.Notes.{nodes, code_noted}
 use Rattle.expr.specs.State.{Env, State, Ans, Typing, st, ran, typed_as}
@@ -24,7 +24,7 @@ pub record Coded (n x : ℕ) : Type 0 where
   pub known : Knows n x
 
 pub record SlotsCoded (vars : ℕ) (slots : List ℕ) : Type 0 where
-  pub each : (i : ℕ) → Coded vars (get slotCount slots i - 2)
+  pub each : (i : ℕ) → Coded vars (get slot_count slots i - 2)
 
 pub record NotesCoded (vars : ℕ) (notes : List ℕ) : Type 0 where
   pub each : (i : ℕ) → Coded vars (code_noted (get nodes notes i))

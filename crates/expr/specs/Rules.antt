@@ -25,7 +25,7 @@ use Rattle.arms.specs.Match.{wild, subject_of, arm_fault, missing_variants}
 use Rattle.arms.specs.declared.answer.Subject.{Subject}
 use Rattle.arms.specs.declared.answer.Subject.TheVariants as subject
 use Rattle.records.specs.Record.{record_fault}
-use Rattle.slots.specs.Slots.{slots as slotCount, unbound, opened, Opening, open_list, close_list, close_lets}
+use Rattle.slots.specs.Slots.{slots as slot_count, unbound, opened, Opening, open_list, close_list, close_lets}
 use Rattle.words.specs.Notes.{nodes, note_of, code_noted}
 use Rattle.expr.specs.State.{Env, State, Ans, Typing, with_slots, with_notes, done, refuse, refuse_with, ◌then◌, ◌gives◌, resolving, fresh_type, unify_step}
 use Rattle.expr.specs.declared.answer.Step.TheVariants.{Done}
@@ -113,7 +113,7 @@ literal_rule marks id n want vars s =
 -- "33: slot not open"; a slot holds 0 (never bound), 1 (closed) or 2 + code
 unfoldable pub slot_rule : List ℕ → ℕ → ExpressionRow → ℕ → ℕ → State → Ans
 slot_rule marks id n want vars s =
-    letting (get slotCount s.slots n.a) λ x.
+    letting (get slot_count s.slots n.a) λ x.
     pick (leb 2 x) (unify_step marks id want (x - 2) vars s) (refuse 33 id s)
 
 -- ---- "Let: 35, value, then its slot opens to the block's end."

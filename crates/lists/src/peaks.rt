@@ -3,7 +3,7 @@
 ghost use Rattle.std.specs.Prelude.{◌≡◌, ◌+◌, ◌*◌, ◌≤◌, ◌<◌, ltb, length, get_or, replicate};
 ghost use Rattle.laws.specs.First.{all};
 ghost use Rattle.lists.specs.Runs.{Nested};
-ghost use Rattle.lists.specs.Peaks.{weight as weightOf, stride as stride_of, region as regionOf, leaves as leavesOf, lane as lane_of, spot as spot_of, place as place_of, leaf, edges_below, Earlier, Tips, Nodes, Peaks as PeaksOf};
+ghost use Rattle.lists.specs.Peaks.{weight as weight_of, stride as stride_of, region as region_of, leaves as leaves_of, lane as lane_of, spot as spot_of, place as place_of, leaf, edges_below, Earlier, Tips, Nodes, Peaks as PeaksOf};
 
 use crate::earlier::Places;
 use crate::runs::Runs;
@@ -50,7 +50,7 @@ fn stride(form: u32) -> u32
 // How many leaves a form has.
 pub fn region(c: Counts) -> u32
     requires { c.words ≤ 8184 }
-    ensures { result ≡ regionOf c }
+    ensures { result ≡ region_of c }
 {
     let groups = c.words / 4;
     4 * (groups + 1)
@@ -69,7 +69,7 @@ fn spot(c: Counts, form: u32, j: u32) -> u32
 
 // The word where the item of a form's leaf y starts.
 fn place(c: Counts, form: u32, y: u32) -> u32
-    requires { (c.words ≤ 8184) × (y < regionOf c) }
+    requires { (c.words ≤ 8184) × (y < region_of c) }
     ensures { result ≡ place_of c form y }
 {
     let by = stride(form);
@@ -105,7 +105,7 @@ fn fill_leaves(
     cells: &mut [u16; Peaks::CAPACITY],
 )
     requires { Nested pack.now c fields.now slots.now × Earlier pack.now c earlier.now × (length cells.old ≡ 98304) }
-    ensures { Tips pack.now c (leavesOf c) cells.new }
+    ensures { Tips pack.now c (leaves_of c) cells.new }
 {
     let n = FORMS * region(c);
     let mut x = 0;
@@ -118,7 +118,7 @@ fn fill_leaves(
 
 // Fills the nodes, from the last down.
 fn fill_nodes(pack: &[u8], c: Counts, cells: &mut [u16; Peaks::CAPACITY])
-    requires { (c.words ≤ 8184) × Tips pack.now c (leavesOf c) cells.old }
+    requires { (c.words ≤ 8184) × Tips pack.now c (leaves_of c) cells.old }
     ensures { PeaksOf pack.now c cells.new }
 {
     let mut y = FORMS * region(c);
@@ -161,8 +161,8 @@ fn edges_below(cells: &[u16; Peaks::CAPACITY], l: u32, r: u32, limit: u32) -> bo
 
 // Whether each of n leaves is below the limit. What lies between the ends of a range is judged by the nodes above it.
 fn range_below(c: Counts, cells: &[u16; Peaks::CAPACITY], from: u32, n: u32, limit: u32) -> bool
-    requires { (c.words ≤ 8184) × Nodes (leavesOf c) 1 cells.now × (from + n ≤ leavesOf c) }
-    ensures { result ≡ all (λ x. ltb (get_or cells.now x 0) limit) (leavesOf c + from) (leavesOf c + from + n) }
+    requires { (c.words ≤ 8184) × Nodes (leaves_of c) 1 cells.now × (from + n ≤ leaves_of c) }
+    ensures { result ≡ all (λ x. ltb (get_or cells.now x 0) limit) (leaves_of c + from) (leaves_of c + from + n) }
 {
     let mut l = FORMS * region(c) + from;
     let mut r = l + n;
@@ -189,7 +189,7 @@ pub fn items_below(
     peaks: &[u16; Peaks::CAPACITY],
 ) -> bool
     requires { PeaksOf pack.now c peaks.now × (form < 6) × (j + stride_of form * n ≤ c.words + 1) }
-    ensures { result ≡ all (λ k. ltb (weightOf pack.now c form (j + stride_of form * k)) limit) 0 n }
+    ensures { result ≡ all (λ k. ltb (weight_of pack.now c form (j + stride_of form * k)) limit) 0 n }
 {
     let from = spot(c, form, j);
     range_below(c, peaks, from, n, limit)

@@ -4,7 +4,7 @@ ghost use Rattle.laws.specs.Choice.{pick};
 ghost use Rattle.pack.specs.Lists.{list_word};
 ghost use Rattle.lists.specs.Runs.{Runs as RunsOf, Nested};
 ghost use Rattle.lists.specs.Lists.{slots_fit};
-ghost use Rattle.lists.specs.Peaks.{never, variant_weight, arm_weight, rise_weight, region, Earlier, weight as weightOf};
+ghost use Rattle.lists.specs.Peaks.{never, variant_weight, arm_weight, rise_weight, region, Earlier, weight as weight_of};
 
 use crate::earlier::Places;
 use crate::limits::{NAMES, SLOTS, WILD};
@@ -103,7 +103,7 @@ pub fn weight(
     earlier: &[u16; Places::CAPACITY],
 ) -> u16
     requires { (j < region c) × Nested pack.now c fields.now slots.now × Earlier pack.now c earlier.now }
-    ensures { result ≡ weightOf pack.now c form j }
+    ensures { result ≡ weight_of pack.now c form j }
 {
     match form {
         0 => word(pack, c, j),

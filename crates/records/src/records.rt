@@ -1,7 +1,7 @@
 // A record expression: the fields that it names against those of its definition.
 ghost use Rattle.std.specs.Prelude.{◌≡◌, ◌<◌};
 ghost use Rattle.names.specs.Index.{Indexed};
-ghost use Rattle.records.specs.Record.{strangers as strangersIn, is_plain_record, invalid_fields, named_before, duplicate_fields, missing_fields, counted_fault, fields_fault, record_fault};
+ghost use Rattle.records.specs.Record.{strangers as strangers_in, is_plain_record, invalid_fields, named_before, duplicate_fields, missing_fields, counted_fault, fields_fault, record_fault};
 
 use crate::answer::Fault;
 use laws::{both, flag, unless};
@@ -22,7 +22,7 @@ fn strangers(
     given: u32,
 ) -> u32
     requires { Indexed pack.now c names.now }
-    ensures { result ≡ strangersIn pack.now c list given }
+    ensures { result ≡ strangers_in pack.now c list given }
 {
     let n = list_len(pack, c, given);
     let mut strange = 0;

@@ -1,7 +1,7 @@
 // The expression table: 9 kinds of nodes.
 ghost use Rattle.std.specs.Prelude.{◌≡◌, ◌≤◌};
 ghost use Rattle.lists.specs.Peaks.{Peaks as PeaksOf, never};
-ghost use Rattle.rows.specs.Expressions.{unused as unusedOf, expression_known, kind_known, expression_in_range, expression_rule};
+ghost use Rattle.rows.specs.Expressions.{unused as unused_of, expression_known, kind_known, expression_in_range, expression_rule};
 
 use crate::faults::fault_of;
 use laws::both;
@@ -10,7 +10,7 @@ use pack::{Counts, ExpressionRow, expression_row};
 
 // Whether three fields that a kind does not use are zero.
 fn unused(x: u32, y: u32, z: u32) -> bool
-    ensures { result ≡ unusedOf x y z }
+    ensures { result ≡ unused_of x y z }
 {
     both(both(x == 0, y == 0), z == 0)
 }

@@ -1,7 +1,7 @@
 // The slots of a root, each never bound, closed, or open with the code of its type.
 ghost use Rattle.std.specs.Prelude.{◌≡◌, replicate};
 ghost use Rattle.laws.specs.Bounded.{get, put};
-ghost use Rattle.slots.specs.Slots.{slots as slotCount};
+ghost use Rattle.slots.specs.Slots.{slots as slot_count};
 
 #[derive(Drop)]
 pub struct Slots {
@@ -19,7 +19,7 @@ impl Slots {
     pub const OPEN: u32 = 2;
 
     pub fn empty() -> Self
-        ensures { result.slots ≡ replicate slotCount 0 }
+        ensures { result.slots ≡ replicate slot_count 0 }
     {
         Self {
             slots: [0u32; Self::CAPACITY],
@@ -28,7 +28,7 @@ impl Slots {
 }
 
 pub fn slot_at(slots: &[u32; Slots::CAPACITY], a: u32) -> u32
-    ensures { result ≡ get slotCount slots.now a }
+    ensures { result ≡ get slot_count slots.now a }
 {
     if (a as usize) < Slots::CAPACITY {
         slots[a as usize]
@@ -38,7 +38,7 @@ pub fn slot_at(slots: &[u32; Slots::CAPACITY], a: u32) -> u32
 }
 
 pub fn put_slot(slots: &mut [u32; Slots::CAPACITY], a: u32, holds: u32)
-    ensures { slots.new ≡ put slotCount slots.old a holds }
+    ensures { slots.new ≡ put slot_count slots.old a holds }
 {
     if (a as usize) < Slots::CAPACITY {
         slots[a as usize] = holds;

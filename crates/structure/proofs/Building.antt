@@ -637,7 +637,7 @@ module _ (p : List ℕ) (c : Counts) where
 
     pub built_more : Built fit (i + 1) us' ls' hs' ks' ss' ms' look' roots' cells' tests' members'
     built_more = record {
-      users = rw kept.usersSet (users_more b.users slot_i);
+      users = rw kept.users_set (users_more b.users slot_i);
       right = λ small.
           let done = b.right small in
           let o = outcome small inside room done b.read fitted shape b.users slot_i sort_i kept.told kept.grown kept.finds in
@@ -646,8 +646,8 @@ module _ (p : List ℕ) (c : Counts) where
           let same' : Filled (row_number p c) ss' (i + 1) = rw row.same_set (filled_more done.same room (number_right small inside room done k row.hit row.numbered)) in
           let marks' : Filled mark ms' (i + 1) = rw row.marks_set (filled_more done.marks room (mark_right small inside room done list row.marked)) in
           record {
-            lists = rw kept.listsSet (filled_more done.lists room list.number);
-            helds = rw kept.heldsSet (filled_more done.helds room list.held);
+            lists = rw kept.lists_set (filled_more done.lists room list.number);
+            helds = rw kept.helds_set (filled_more done.helds room list.held);
             keys = rw row.keys_set (filled_more done.keys room k);
             same = same';
             marks = marks';

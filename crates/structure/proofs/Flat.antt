@@ -4,7 +4,7 @@
 --     part_in, return_in          the types of a row's list, and what a function returns, are parts of it
 --     holds-flat                  whether a part holds something
 -- Assumes nothing.
-use mathlib.Core.Path.{◌≡◌, refl, sym, ap, ◌∙◌}
+use mathlib.Core.Path.{◌≡◌, refl, sym, ap, subst, ◌∙◌}
 use mathlib.Core.Logic.{◌⊎◌, inl, inr, ⊎_elim}
 use mathlib.Core.List.{List, [], ◌∷◌}
 use mathlib.Core.Bool.{Bool, true, false, not, ◌&&◌, ◌||◌}
@@ -270,7 +270,7 @@ module _ (p : List ℕ) (c : Counts) where
           rw (part (type_row p i) refl, x.part m) (in_items (type_row p i).b m (rw x.len at h))
       go (function slot part name six) =
           let x = row_items i (type_row p i).kind refl slot in
-          rw (part (type_row p i) refl, x.part m) (in_more (list_item p c (type_row p i).b m) (type_row p i).a (items_of p c (type_row p i).b) (in_items (type_row p i).b m (rw x.len at h)))
+          rw (part (type_row p i) refl) (subst (λ y. In y ((type_row p i).a ∷ items_of p c (type_row p i).b)) (sym (x.part m)) (in_more (list_item p c (type_row p i).b m) (type_row p i).a (items_of p c (type_row p i).b) (in_items (type_row p i).b m (rw x.len at h))))
       go (leaf slot part name six) = absurd (omega (arith, row_leaf i (type_row p i).kind refl slot))
 
   pub return_in : (i : ℕ) → (type_row p i).kind ≡ 6 → In (type_row p i).a (parts_of p c i)

@@ -123,7 +123,7 @@ module _ {p : List ℕ} {c : Counts} {n : ℕ} {a : Arrays} {r : Run} {i : ℕ} 
   unfolding found
   run_end l =
       let h = at_end l in
-      let d : c.values ≡ r.done = sym (search.listed-length (refs_of p c) c.values h.in_range.fits) ∙ length_listing (tarjan (refs_of p c) c.values).components ∙ listed_length h in
+      let d : c.values ≡ r.done = sym (search.listed_length (refs_of p c) c.values h.in_range.fits) ∙ length_listing (tarjan (refs_of p c) c.values).components ∙ listed_length h in
       record {
         len_listed = h.len_listed;
         len_size = h.len_size;

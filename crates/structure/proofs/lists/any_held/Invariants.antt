@@ -1,0 +1,13 @@
+use Prim.Native.Nat.{◌+◌, ◌-◌, ◌%◌}
+use lib.Dec.{eqb}
+use Rattle.laws.specs.First.{all}
+use Rattle.laws.specs.Bounded.{get}
+use Rattle.structure.specs.Words.{looks}
+use Rattle.structure.proofs.Counting.{Counted}
+use Rattle.structure.proofs.lists.any_held.Given as goal
+
+abbrev pub invariant-loop-m : goal.invariant-loop-m
+invariant-loop-m l = Counted (λ k. eqb (get looks l.look (l.a + k) % 2) 0) l.m l.n (all (λ k. eqb (get looks l.look (l.a + k) % 2) 0) 0 l.n) l.odd
+
+abbrev pub decreases-loop-m : goal.decreases-loop-m
+decreases-loop-m l = l.n - l.m

@@ -1,0 +1,12 @@
+use Prim.Native.Nat.{◌-◌, ◌≤◌}
+use Rattle.pack.specs.Lists.{list_word}
+use Rattle.structure.specs.Lists.{words}
+use Rattle.structure.specs.Buckets.{Links}
+use Rattle.structure.specs.Words.{Read}
+use Rattle.structure.proofs.words.read_words.Given as goal
+
+abbrev pub invariant-loop-j : goal.invariant-loop-j
+invariant-loop-j l = (l.j ≤ words) × Read l.pack l.c l.look l.j × Links words (list_word l.pack l.c) l.heads l.nexts l.j
+
+abbrev pub decreases-loop-j : goal.decreases-loop-j
+decreases-loop-j l = words - l.j

@@ -1,0 +1,33 @@
+use Rattle.laws.specs.Lists.{count}
+use Rattle.type_cycle.proofs.SkipLaws.{tier}
+use Prim.Native.Nat.{◌+◌, ◌*◌}
+use Prim.Native.Nat.{◌≤◌, ◌-◌}
+use Rattle.laws.specs.Lists.{gather}
+use Rattle.type_cycle.specs.Graph.{item_types}
+use Rattle.type_cycle.specs.Sizes.{counts_in}
+use Rattle.type_cycle.specs.Search.{st, Visited}
+use Rattle.type_cycle.proofs.visits.+visits.Given as goal
+
+abbrev pub decreases-visit : goal.decreases-visit
+decreases-visit l = count 0 l.marks.now * 8 + 1
+
+abbrev pub decreases-visit_fields : goal.decreases-visit_fields
+decreases-visit_fields l = count 0 l.marks.now * 8 + 7
+
+abbrev pub decreases-visit_item : goal.decreases-visit_item
+decreases-visit_item l = count 0 l.marks.now * 8 + 2 + tier l.items
+
+abbrev pub decreases-visit_list : goal.decreases-visit_list
+decreases-visit_list l = count 0 l.marks.now * 8 + 3 + tier l.items
+
+abbrev pub decreases-visit_name : goal.decreases-visit_name
+decreases-visit_name l = count 0 l.marks.now * 8 + 1
+
+abbrev pub decreases-visit_row : goal.decreases-visit_row
+decreases-visit_row l = count 0 l.marks.now * 8 + 7
+
+abbrev pub invariant-visit_list-loop-k : goal.invariant-visit_list-loop-k
+invariant-visit_list-loop-k l = (l.k ≤ l.count) × Visited l.pack (counts_in l.c) (gather (item_types l.pack (counts_in l.c) l.items l.s) 0 l.k) (st l.initial.marks l.initial.skips l.initial.order l.n) (st l.marks l.skips l.order l.m)
+
+abbrev pub decreases-visit_list-loop-k : goal.decreases-visit_list-loop-k
+decreases-visit_list-loop-k l = l.count - l.k
