@@ -504,6 +504,15 @@ def turn_cycle(folder, names, crate, module, say):
                 if b.strip() in ("search rules", "tt") or new in used:
                     continue
                 answers.append((fn, [f"pub {new} : goal.{new}", f"{new} t c = {rewrite(t, b, t.at.get(new), new)}"]))
+    # where a cycle has several members, a goal has its member's name before it
+    if len(measures) > 1:
+        for fn, b in answers:
+            name = re.match(r"pub (\S+) :", b[0]).group(1)
+            b[0] = f"pub {fn}-{name} : goal.{fn}-{name}"
+            for k in range(1, len(b)):
+                if b[k].startswith(name + " "):
+                    b[k] = f"{fn}-" + b[k]
+                    break
     return answers, invs, uses, notes, measures
 
 

@@ -15,6 +15,7 @@ use lib.Seq.{get_or-set_same, get_or-set_other}
 use Rattle.laws.specs.Lists.{count, In}
 use Rattle.laws.proofs.Choice.{by_eq}
 use Rattle.laws.proofs.Bounded.{put_in}
+use Rattle.laws.proofs.Members.{in_subst}
 use Rattle.laws.proofs.Lists.{count_append, count_same, in_cons, in_one, in_append}
 use Rattle.pack.specs.declared.counts.Counts.{Counts}
 use Rattle.type_cycle.specs.Graph.{at_name, places, ahead, Path, here, on, Reach, Round}
@@ -139,7 +140,7 @@ module _ {p : List ℕ} {c : Counts} (s : State) (x : ℕ) (e : get_or s.marks x
         done =
             λ y i.
             ⊎_elim
-            (λ q. inl (rw q (in_first x o)))
+            (λ q. inl (in_subst (x ∷ o) (sym q) (in_first x o)))
             (λ z. ⊎_elim (λ m. inl (in_rest y x o m)) (λ a. inr (λ z m. mark_keeps s.marks x h z (a z m))) (k.done y z))
             (mark_only s.marks x h y i);
         skips = skips_grow (mark_keeps s.marks x h) k.skips;
@@ -154,7 +155,7 @@ module _ {p : List ℕ} {c : Counts} (s : State) (x : ℕ) (e : get_or s.marks x
         listed =
             λ d l i.
             ⊎_elim
-            (λ q. inl (rw q (in_first x o)))
+            (λ q. inl (in_subst (x ∷ o) (sym q) (in_first x o)))
             (λ m. ⊎_elim (λ k. inl (in_rest (at_name d) x o k)) (λ k. inr k) (r.listed d l m))
             (mark_only s.marks x h (at_name d) i);
         left_seen =
@@ -263,7 +264,7 @@ module _ {p : List ℕ} {c : Counts} (s : State) (d : ℕ) (few : d < 512) (e : 
     new i z = ap (λ (m : List ℕ). get_or m i 0) stored ∙ rw z (get_or-set_same t.order t.left d 0 (omega (arith, room, a.long)))
 
     unlisted : (i : ℕ) → i < t.left → left_at t i ≡ d → ⊥
-    unlisted i l z = (a.left_seen i l).2 (rw z (in_first (at_name d) o))
+    unlisted i l z = (a.left_seen i l).2 (in_subst (at_name d ∷ o) (ap at_name (sym z)) (in_first (at_name d) o))
 
     back : (g : ℕ) → In g (at_name d ∷ o) → Round p c (at_name d) g → Round p c (at_name d) (at_name d)
     back g i m = ⊎_elim (λ z. rw z at m) (λ j. onward m (f g (at_name d) j (in_first (at_name d) []))) (in_cons g (at_name d) o i)

@@ -9,7 +9,7 @@ pub follow-q-requires : goal.follow-q-requires
 follow-q-requires c = (c.loop-v-test.true, (c.loop-v.invariant.now_at, c.loop-v.invariant.holds))
 
 pub loop-v-preserved : goal.loop-v-preserved
-loop-v-preserved c = run_turn c.loop-v.invariant c.loop-v-test.true c.follow-q.ensures.1
+loop-v-preserved c = run_turn c.loop-v.invariant c.loop-v-test.true c.follow-q.ensures.gives
 
 pub returns : goal.returns
 returns c = run_end c.loop-v.invariant c.loop-v-test.false
