@@ -6,7 +6,7 @@ use Prim.Native.Nat.{◌-◌, ◌≤◌}
 use Rattle.rows.proofs.tables.table_rows.Given as goal
 
 abbrev pub invariant-loop-i : goal.invariant-loop-i
-invariant-loop-i l = 
+invariant-loop-i l =
     (l.i ≤ l.n) × RowsLeft (row_rule l.pack l.c l.table) (λ k. refuse (row_rule l.pack l.c l.table k) k l.table) (Pack l.c) l.i (rows_in l.c l.table) (table_of l.pack l.c l.table)
 
 abbrev pub decreases-loop-i : goal.decreases-loop-i

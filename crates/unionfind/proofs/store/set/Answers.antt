@@ -38,14 +38,15 @@ unfolding set_answer pick
 returns c = sets c.requires.1 _ _ _ c.requires.0
     (rw (nle refl refl c.if-n-v.false)
     (elim c.if-is_var.branch [
-      then-is_var+else-n-w+then-is_link+else-passes w ↦
-        rw (
-          sym c.is_var.ensures ∙ w.if-is_var.true,
-          nle refl w.number_of-w.ensures w.if-n-w.false,
-          sym w.is_link.ensures ∙ w.if-is_link.true,
-          sym (rw w.number_of-w.ensures at w.passes.ensures) ∙ w.if-passes.false,
-        )
-    | then-is_var+else-n-w+else-is_link w ↦
-        rw (sym c.is_var.ensures ∙ w.if-is_var.true, nle refl w.number_of-w.ensures w.if-n-w.false, sym w.is_link.ensures ∙ w.if-is_link.false)
-    | else-is_var w ↦
-        let e = sym c.is_var.ensures ∙ w.if-is_var.false in rw (e, no_var_no_link _ _ e) ]))
+      | then-is_var+else-n-w+then-is_link+else-passes w ↦
+          rw (
+            sym c.is_var.ensures ∙ w.if-is_var.true,
+            nle refl w.number_of-w.ensures w.if-n-w.false,
+            sym w.is_link.ensures ∙ w.if-is_link.true,
+            sym (rw w.number_of-w.ensures at w.passes.ensures) ∙ w.if-passes.false,
+          )
+      | then-is_var+else-n-w+else-is_link w ↦
+          rw (sym c.is_var.ensures ∙ w.if-is_var.true, nle refl w.number_of-w.ensures w.if-n-w.false, sym w.is_link.ensures ∙ w.if-is_link.false)
+      | else-is_var w ↦
+          let e = sym c.is_var.ensures ∙ w.if-is_var.false in rw (e, no_var_no_link _ _ e)
+    ]))

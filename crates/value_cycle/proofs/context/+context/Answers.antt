@@ -37,7 +37,7 @@ pub determine_uses_context-bounds-visited-v-2 : goal.determine_uses_context-boun
 determine_uses_context-bounds-visited-v-2 t c = omega (arith, c.requires.2, c.requires.0.few)
 
 pub determine_uses_context-any_uses_context-requires : goal.determine_uses_context-any_uses_context-requires
-determine_uses_context-any_uses_context-requires t c = 
+determine_uses_context-any_uses_context-requires t c =
     let t = c.requires.0 in
     let u = c.if-seen-ne0.false in
     let d = c.if-kind-eq-CONTEXT.false in
@@ -46,7 +46,7 @@ determine_uses_context-any_uses_context-requires t c =
     (omega (arith, c.decreases, less m), (t, marked_sized m, refs_values t c.requires.2 e))
 
 pub determine_uses_context-returns : goal.determine_uses_context-returns
-determine_uses_context-returns t c = 
+determine_uses_context-returns t c =
     let u = c.if-seen-ne0.false in
     let d = c.if-kind-eq-CONTEXT.false in
     let e = c.list_of-s.ensures in

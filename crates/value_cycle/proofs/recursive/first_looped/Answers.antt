@@ -10,17 +10,17 @@ unfolding first₅₁
 loop-d-init c = record { says = refl }
 
 pub is_looped-requires : goal.is_looped-requires
-is_looped-requires c = 
+is_looped-requires c =
     let q = c.requires in
     omega (arith, listed_small q.0 q.1 c.loop-d-test.true c.value_at-v.ensures)
 
 pub returns-then-is_looped : goal.returns-then-is_looped
-returns-then-is_looped c = 
+returns-then-is_looped c =
     let q = c.requires in
     loop_found q.0 q.1 c.loop-d-test.true c.value_at-v.ensures c.loop-d.invariant c.is_looped.ensures c.if-is_looped.true
 
 pub loop-d-preserved : goal.loop-d-preserved
-loop-d-preserved c = 
+loop-d-preserved c =
     let q = c.requires in
     loop_passes q.0 q.1 c.loop-d-test.true c.value_at-v.ensures c.loop-d.invariant c.is_looped.ensures c.if-is_looped.false
 

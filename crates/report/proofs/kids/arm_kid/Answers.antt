@@ -1,18 +1,16 @@
--- `arm_kid`: the examinee, or of an arm its guard or its body.
-use Prim.Native.Nat.{ℕ, zero, suc, ◌+◌, ◌-◌, ◌*◌, ◌/◌, ◌%◌, ◌<◌}
-use mathlib.Core.Path.{◌≡◌, refl, ap, subst, sym}
+use Prim.Native.Nat.{ℕ, zero, suc, ◌+◌, ◌-◌, ◌*◌, ◌/◌, ◌%◌}
+use mathlib.Core.Path.{◌≡◌, refl, ap}
 use mathlib.Core.List.{List, [], ◌∷◌}
 use native.Mathlib.Omega.{arith}
 use borrow.Author.Tests.{eq-eqb, ne_eqb}
-use borrow.Author.Rules.{rules}
 use Rattle.laws.proofs.Choice.{yes, no}
 use Rattle.pack.specs.Lists.{list_item}
 use Rattle.pack.specs.Named.{optional}
 use Rattle.pack.specs.declared.counts.Counts.{Counts}
 use Rattle.report.specs.Kids.{arm_kid}
-use Rattle.report.proofs.kids.arm_kid.Statement.{statement}
-use Rattle.report.proofs.kids.arm_kid.Tie as tie
+use Rattle.report.proofs.kids.arm_kid.Goals as goal
 
+-- `arm_kid`: the examinee, or of an arm its guard or its body.
 module _ (p : List ℕ) (c : Counts) (examinee arms : ℕ) where
   first : (k : ℕ) → k ≡ 0 → examinee ∷ [] ≡ arm_kid p c examinee arms k
   unfolding arm_kid
@@ -33,18 +31,11 @@ module _ (p : List ℕ) (c : Counts) (examinee arms : ℕ) where
       let h : suc k - 1 ≡ k = omega arith in
       no _ _ _ (ne_eqb (k % 2) 0 (rw h at q)) (ap (λ (x : ℕ). x ∷ []) (rw h at e))
 
-pub arm-kid-spec : {M : Type 1} → statement M
-arm-kid-spec =
-    tie.close
-    (tie.spec
-    (λ c. first _ _ _ _ _ c.if1.true)
-    (λ c. search rules)
-    (λ c. search rules)
-    (λ c. search rules)
-    (λ c κs. search rules)
-    (λ c κs. search rules)
-    (λ c. search rules)
-    (λ c. search rules)
-    (λ c κs. search rules)
-    (λ c. guard _ _ _ _ _ c.before.before.before.if1.false c.before.before.if2.true c.before.list-item.ensures.same c.stored.ensures)
-    (λ c. body _ _ _ _ _ c.before.before.if1.false c.before.if2.false c.list-item2.ensures.same))
+pub returns-then-k-eq0 : goal.returns-then-k-eq0
+returns-then-k-eq0 c = first _ _ _ _ _ c.if-k-eq0.true
+
+pub returns-then-j-eq0 : goal.returns-then-j-eq0
+returns-then-j-eq0 c = guard _ _ _ _ _ c.if-k-eq0.false c.if-j-eq0.true c.list_item.ensures.same c.stored.ensures
+
+pub returns-else-j-eq0 : goal.returns-else-j-eq0
+returns-else-j-eq0 c = body _ _ _ _ _ c.if-k-eq0.false c.if-j-eq0.false c.list_item-else-j-eq0.ensures.same

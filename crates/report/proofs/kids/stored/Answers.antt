@@ -1,13 +1,11 @@
--- `stored`: none, or what is stored less one.
 use Prim.Native.Nat.{ℕ, zero, suc, ◌-◌}
 use mathlib.Core.Path.{◌≡◌, refl}
-use mathlib.Core.List.{List, [], ◌∷◌}
+use mathlib.Core.List.{[], ◌∷◌}
 use native.Mathlib.Omega.{arith}
-use borrow.Author.Rules.{rules}
 use Rattle.pack.specs.Named.{optional}
-use Rattle.report.proofs.kids.stored.Statement.{statement}
-use Rattle.report.proofs.kids.stored.Tie as tie
+use Rattle.report.proofs.kids.stored.Goals as goal
 
+-- `stored`: none, or what is stored less one.
 none : (x : ℕ) → x ≡ 0 → [] ≡ optional x
 none zero e = refl
 none (suc x) e = absurd (omega arith)
@@ -16,5 +14,8 @@ some : (x : ℕ) → (x ≡ 0 → ⊥) → (x - 1) ∷ [] ≡ optional x
 some zero n = absurd (n refl)
 some (suc x) n = let e : suc x - 1 ≡ x = omega arith in rw e refl
 
-pub stored-spec : {M : Type 1} → statement M
-stored-spec = tie.close (tie.spec (λ c. search rules) (λ c. none _ c.if1.true) (λ c. some _ c.if1.false))
+pub returns-then-x-eq0 : goal.returns-then-x-eq0
+returns-then-x-eq0 c = none _ c.if-x-eq0.true
+
+pub returns-else-x-eq0 : goal.returns-else-x-eq0
+returns-else-x-eq0 c = some _ c.if-x-eq0.false
