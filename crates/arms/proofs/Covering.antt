@@ -11,7 +11,7 @@ use Prim.Native.Nat.{ℕ, ◌+◌, ◌*◌, ◌/◌, ◌%◌, ◌<◌, ◌≤◌
 use native.Mathlib.Omega.{arith}
 use lib.Dec.{eqb}
 use borrow.Author.Tests.{eq-eqb, eqb-true, not-true, not-false}
-use Rattle.laws.proofs.Choice.{by_eq, by_test, fails, and_both}
+use Rattle.laws.proofs.Choice.{by_eq, and_both}
 use Rattle.laws.proofs.First.{Until}
 use Rattle.laws.proofs.Members.{by_le}
 use Rattle.pack.specs.Lists.{list_len, list_item}

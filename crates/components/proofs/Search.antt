@@ -1,7 +1,7 @@
 -- The search's result: every value is listed once, the components are the classes of mutual reach, and what is reached comes first.
 -- Assumes nothing.
 use mathlib.Core.Path.{◌≡◌}
-use mathlib.Core.Logic.{◌⊎◌, ⊎_elim, ◌↔◌}
+use mathlib.Core.Logic.{⊎_elim, ◌↔◌}
 use mathlib.Core.List.{List, Memᴰ}
 use Prim.Native.Nat.{ℕ, ◌≤◌, ◌<◌}
 use native.Mathlib.Omega.{arith}

@@ -1,17 +1,15 @@
 -- What a well-formed pack promises, for the layers above. Each field says it in a sentence.
 -- Of single rows (parts and children smaller, ids and lists in range) see the promises of `rows`, which take `rows_passed`.
 -- Assumes nothing.
-use Prim.Native.Nat.{ℕ, suc, ◌+◌, ◌≤◌, ◌<◌}
+use Prim.Native.Nat.{ℕ, suc, ◌≤◌, ◌<◌}
 use mathlib.Core.Path.{◌≡◌, refl, sym, ap, ◌∙◌}
-use mathlib.Core.Bool.{Bool, true, false}
+use mathlib.Core.Bool.{true}
 use mathlib.Core.List.{List, [], ◌∷◌}
 use native.Mathlib.Omega.{arith}
-use lib.Dec.{eqb, leb}
 use borrow.Author.Tests.{eq-eqb, leb-true}
 use Rattle.laws.specs.Choice.{pick}
 use Rattle.laws.specs.Answers.{after}
-use Rattle.laws.specs.Lists.{count, In, gather}
-use Rattle.laws.proofs.Choice.{yes}
+use Rattle.laws.specs.Lists.{In}
 use Rattle.laws.proofs.Answers.{passed, follows}
 use Rattle.laws.proofs.First.{each, none_is}
 use Rattle.laws.proofs.Lists.{in_gather, count_same}
@@ -21,11 +19,11 @@ use Rattle.pack.specs.Rows.{expression_row, root_row}
 use Rattle.pack.specs.Named.{kids_of}
 use Rattle.pack.specs.declared.counts.Counts.{Counts}
 use Rattle.pack.specs.declared.answer.Reading.{Reading}
-use Rattle.pack.specs.declared.answer.Reading.TheVariants.{Pack, Refused}
+use Rattle.pack.specs.declared.answer.Reading.TheVariants.{Pack}
 use Rattle.pack.proofs.HeaderLaws.{Headed, header_passed, pack_same}
 use Rattle.rows.specs.Tables.{rows_of}
 use Rattle.rows.proofs.Promises.{root_inside}
-use Rattle.trees.specs.Nodes.{bodies_of, uses_of, stated_of, depth_of, max_depth, node_fits, nodes_of}
+use Rattle.trees.specs.Nodes.{bodies_of, stated_of, depth_of, max_depth, node_fits, nodes_of}
 use Rattle.formed.specs.Formed.{trees_of, body_of, formed_of}
 use Rattle.trees.specs.Trees.{Trees}
 use Rattle.formed.proofs.Ready.{grown}

@@ -6,14 +6,14 @@
 -- Assumes nothing.
 use Prim.Native.Nat.{ℕ, zero, suc, ◌+◌, ◌*◌, ◌-◌, ◌/◌, ◌%◌, ◌<◌, ◌≤◌, max}
 use mathlib.Core.Path.{◌≡◌, refl, sym, ap, ◌∙◌}
-use mathlib.Core.Bool.{Bool, true, false, ◌&&◌, ◌||◌}
+use mathlib.Core.Bool.{Bool, true, false, ◌||◌}
 use mathlib.Core.List.{List}
 use native.Mathlib.Omega.{arith}
 use native.Mathlib.Nat.{mul-add, mul-suc, mul-le-mul_left, le_of_mul-le-mul_left, mod-lt, div-add-mod, mul-add-div, div-eq_of_lt, mul-add-mod_self_left, mod-eq_of_lt, add-zero, lt_of_mul-lt-mul_left, div-lt_iff_lt-mul, mul_comm, mul-zero}
-use lib.Dec.{eqb, leb, ltb}
+use lib.Dec.{eqb, ltb}
 use lib.ListN.{length, get_or, set, length-set}
 use lib.Seq.{get_or-set_same, get_or-set_other}
-use borrow.Author.Tests.{lt-ltb, ltb-true, eqb-true, ne_eqb}
+use borrow.Author.Tests.{lt-ltb, ltb-true, ne_eqb}
 use Rattle.laws.specs.First.{all}
 use Rattle.laws.proofs.Choice.{by_eq, by_test, fails, and_both}
 use Rattle.laws.proofs.First.{all_in, all_of}

@@ -5,18 +5,16 @@
 --     end_most    the end that is stored next is no place past the last word
 --     by_runs     a list of ids is in range exactly if it ends where its run does, or before
 -- Assumes nothing.
-use Prim.Native.Nat.{ℕ, zero, suc, ◌+◌, ◌-◌, ◌<◌, ◌≤◌}
-use mathlib.Core.Path.{◌≡◌, refl, sym, ap, ◌∙◌}
-use mathlib.Core.Bool.{Bool, true, false, ◌&&◌}
+use Prim.Native.Nat.{ℕ, ◌+◌, ◌<◌, ◌≤◌}
+use mathlib.Core.Path.{◌≡◌, sym, ap, ◌∙◌}
+use mathlib.Core.Bool.{Bool, false}
 use mathlib.Core.List.{List}
 use native.Mathlib.Omega.{arith}
-use native.Mathlib.Numerals.{add-one}
 use lib.Dec.{leb, ltb}
 use lib.ListN.{length, get_or, set, length-set}
 use lib.Seq.{get_or-set_same, get_or-set_other}
-use borrow.Author.Tests.{le-leb, lt-leb, leb-true, leb-false}
+use borrow.Author.Tests.{lt-leb, leb-true, leb-false}
 use Rattle.laws.specs.Choice.{pick}
-use Rattle.laws.specs.First.{until, all}
 use Rattle.laws.proofs.Choice.{by_eq, by_test, pick_all}
 use Rattle.laws.proofs.First.{first_at, first_past, Until, until_is, all_until}
 use Rattle.pack.specs.Lists.{list_word, list_len, list_item}

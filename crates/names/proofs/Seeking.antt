@@ -4,19 +4,18 @@
 --     rising                                the places of one key rise
 --     word_found, word_none                 the first word of the key from a place on
 -- Assumes nothing.
-use mathlib.Core.Path.{◌≡◌, refl, sym, ap, ◌∙◌}
+use mathlib.Core.Path.{◌≡◌, sym, ap, ◌∙◌}
 use mathlib.Core.List.{List}
-use mathlib.Core.Bool.{Bool, true, false, not}
+use mathlib.Core.Bool.{Bool, not}
 use Prim.Native.Nat.{ℕ, ◌+◌, ◌<◌, ◌≤◌}
 use native.Mathlib.Omega.{arith}
 use lib.Dec.{eqb, ltb}
 use borrow.Author.Tests.{eq-eqb, ne_eqb, lt-ltb, le-ltb, ltb-true, ltb-false}
 use Rattle.laws.specs.First.{until}
 use Rattle.laws.specs.Bounded.{get}
-use Rattle.laws.proofs.Choice.{by_eq}
 use Rattle.laws.proofs.First.{Until, until_is, at_first, none_is}
 use Rattle.laws.proofs.Members.{by_le}
-use Rattle.names.specs.Index.{no_name, most, capacity, seat_at, start_of, rank_of, Sorted, Rising}
+use Rattle.names.specs.Index.{no_name, capacity, seat_at, start_of, rank_of, Sorted, Rising}
 use Rattle.names.proofs.Ranks.{start_le, start_few, rank_low, rank_high, rank_rises, rank_nth}
 
 pub until_only : (ok : ℕ → Bool) (i n u : ℕ) → Until ok i n u → u ≡ until ok i n

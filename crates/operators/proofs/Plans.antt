@@ -1,11 +1,11 @@
 -- An operator's plan is one of nine, whatever the operator and its left side: what holds of those holds of it (plan_all).
 -- Assumes nothing.
 use Prim.Native.Nat.{ℕ, zero, suc}
-use mathlib.Core.Bool.{Bool, true, false}
+use mathlib.Core.Bool.{Bool}
 use mathlib.Core.List.{List, [], ◌∷◌}
 use lib.Dec.{eqb}
 use Rattle.laws.proofs.Choice.{pick_all}
-use Rattle.laws.specs.Choice.{pick, by_kind}
+use Rattle.laws.specs.Choice.{by_kind}
 use Rattle.unify.specs.Classes.{is_int, is_numeric}
 use Rattle.operators.specs.Operators.{string_code, ip_addr_code, bool_code, prefix_code, u8_code, u32_code, no_call, prefix_new, string_append, list_concat, accepted, refused, logical, compared, number, added, divided, remainder, power, operator_plan}
 use Rattle.operators.specs.declared.plan.OperatorPlan.{OperatorPlan}

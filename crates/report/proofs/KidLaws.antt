@@ -15,7 +15,6 @@ use Rattle.pack.specs.Rows.{expression_row}
 use Rattle.pack.specs.Lists.{list_len, list_item}
 use Rattle.pack.specs.Named.{optional, items_of, seconds_of, arm_kids, row_statements, row_operands, kids_of}
 use Rattle.pack.specs.declared.counts.Counts.{Counts}
-use Rattle.pack.specs.declared.rows.ExpressionRow.{ExpressionRow}
 use Rattle.report.specs.Kids.{kid_at, kids_room, block_kid, arm_kid, first_or}
 
 -- lists that agree place by place

@@ -3,22 +3,21 @@
 --     words_area_lem      the area is `words_area`
 --     notes_blank     no note is left
 -- Assumes nothing.
-use Prim.Native.Nat.{ℕ, zero, suc, ◌+◌, ◌*◌, ◌<◌, ◌≤◌}
+use Prim.Native.Nat.{ℕ, ◌+◌, ◌*◌, ◌<◌, ◌≤◌}
 use mathlib.Core.Path.{◌≡◌, refl, sym, ap, ◌∙◌}
-use mathlib.Core.Logic.{⊎_elim}
 use mathlib.Core.Bool.{true}
 use mathlib.Core.List.{List, [], ◌∷◌}
 use native.Mathlib.Omega.{arith}
 use lib.Dec.{leb}
-use lib.ListN.{length, get_or, replicate, length-replicate}
+use lib.ListN.{length, replicate, length-replicate}
 use lib.Seq.{ext_get_or}
 use borrow.Author.Tests.{le-leb}
 use Rattle.laws.specs.Choice.{pick}
 use Rattle.laws.specs.Bounded.{get, put}
 use Rattle.laws.specs.Lists.{count, In}
 use Rattle.laws.proofs.Bounded.{get_in, get_other, put_length as put-size}
-use Rattle.laws.proofs.Choice.{yes, no, by_eq, by_test, pick_all}
-use Rattle.laws.proofs.Lists.{count_same, count_other, in_cons}
+use Rattle.laws.proofs.Choice.{by_eq, pick_all}
+use Rattle.laws.proofs.Lists.{count_same, count_other}
 use Rattle.laws.proofs.Members.{in_self, by_le}
 use Rattle.unionfind.specs.Cells.{Kept, Knows, Live}
 use Rattle.unify.specs.Unify.{settled}
@@ -28,7 +27,7 @@ use Rattle.words.specs.Notes.{nodes, code_noted, is_seen}
 use Rattle.words.specs.Words.{put_word, word_of, seen_ids, put_words, words_area}
 use Rattle.words.proofs.Writing.{put_length, word_same}
 use Rattle.words.proofs.Promises.{puts_same, seen_in, in_seen}
-use Rattle.report.specs.Report.{Report, rep, noted, write_one, write_all}
+use Rattle.report.specs.Report.{Report, rep, write_one, write_all}
 use Rattle.report.proofs.Writing.{put_zero, one_length}
 
 -- each number at most once in a list

@@ -22,9 +22,9 @@ use Rattle.pack.specs.Rows.{expression_row}
 use Rattle.pack.specs.declared.counts.Counts.{Counts}
 use Rattle.pack.specs.declared.rows.ExpressionRow.{ExpressionRow}
 use Rattle.unionfind.specs.Codes.{is_var}
-use Rattle.unionfind.specs.Cells.{Knows, Live}
+use Rattle.unionfind.specs.Cells.{Knows}
 use Rattle.words.specs.Notes.{nodes, code_noted, is_seen}
-use Rattle.words.specs.Words.{put_word, word_of, NodeWritten}
+use Rattle.words.specs.Words.{word_of, NodeWritten}
 use Rattle.words.proofs.Writing.{put_length}
 use Rattle.report.specs.Kids.{kid_at, kids_room}
 use Rattle.report.specs.Visits.{together, tree_of}

@@ -1,5 +1,5 @@
 -- The children of an expression by their places, in checking order: each place has one child or none.
-use Rattle.std.specs.Prelude.{ℕ, zero, suc, ◌+◌, ◌-◌, ◌*◌, ◌/◌, ◌%◌, List, [], ◌∷◌, eqb, ltb}
+use Rattle.std.specs.Prelude.{ℕ, zero, suc, ◌+◌, ◌*◌, ◌/◌, ◌%◌, List, [], ◌∷◌, eqb, ltb}
 use Rattle.laws.specs.Choice.{pick, by_kind}
 use Rattle.pack.specs.Lists.{list_len, list_item}
 use Rattle.pack.specs.Named.{optional}

@@ -1,6 +1,6 @@
 -- The words of several nodes, one after the other: "A root's report writes 4 bytes at 4·id for each node of that root". With its word a node's
 -- note is cleared.
-use Rattle.std.specs.Prelude.{ℕ, ◌+◌, ◌*◌, ◌≤◌, ◌≡◌, List, [], ◌∷◌, leb, length}
+use Rattle.std.specs.Prelude.{ℕ, ◌+◌, ◌*◌, ◌≡◌, List, [], ◌∷◌, leb, length}
 use Rattle.laws.specs.Choice.{pick}
 use Rattle.laws.specs.Bounded.{get, put}
 use Rattle.unionfind.specs.Cells.{capacity, Knows, Live}

@@ -23,7 +23,7 @@ use Rattle.pack.specs.declared.rows.ExpressionRow.{ExpressionRow}
 use Rattle.lists.specs.declared.lists.Items.{Items}
 use Rattle.lists.specs.declared.lists.Items.TheVariants.{Ids, Pairs, Arms}
 use Rattle.lists.specs.Limits.{names, wild, slots, optional_below}
-use Rattle.lists.specs.Lists.{list_fits, slots_fit, words_of, item_fits, items_fit}
+use Rattle.lists.specs.Lists.{list_fits, slots_fit, words_of, items_fit}
 use Rattle.lists.specs.Names.{name_at, fresh, names_differ, items_rise}
 use Rattle.rows.specs.Types.{type_known, named_fits, type_in_range, type_distinct, fault_of, type_rule}
 use Rattle.rows.specs.Definitions.{definition_known, definition_in_range, definition_distinct, definition_rule}

@@ -7,17 +7,16 @@
 --     refs_inside       a value references values of the pack
 --     refs_rise         and its references rise strictly
 -- Assumes nothing.
-use Prim.Native.Nat.{ℕ, zero, suc, ◌+◌, ◌*◌, ◌-◌, ◌≤◌, ◌<◌}
-use mathlib.Core.Path.{◌≡◌, refl, sym, ap, ◌∙◌}
-use mathlib.Core.Logic.{◌⊎◌, ⊎_elim}
-use mathlib.Core.Bool.{Bool, true, false, ◌&&◌}
+use Prim.Native.Nat.{ℕ, zero, suc, ◌+◌, ◌*◌, ◌-◌, ◌<◌}
+use mathlib.Core.Path.{◌≡◌, refl}
+use mathlib.Core.Logic.{⊎_elim}
+use mathlib.Core.Bool.{Bool, true, ◌&&◌}
 use mathlib.Core.List.{List, [], ◌∷◌, ◌++◌}
 use native.Mathlib.Omega.{arith}
 use lib.Dec.{eqb, leb, ltb}
 use borrow.Author.Tests.{eqb-true, ltb-true, ne_eqb}
 use Rattle.laws.specs.Choice.{pick, by_kind}
-use Rattle.laws.specs.First.{all}
-use Rattle.laws.specs.Lists.{count, In, gather}
+use Rattle.laws.specs.Lists.{In, gather}
 use Rattle.laws.proofs.Choice.{tested, and_both}
 use Rattle.laws.proofs.First.{each, all_each}
 use Rattle.laws.proofs.Lists.{in_cons, in_one, in_append, gather_in}

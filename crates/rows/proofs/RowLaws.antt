@@ -2,7 +2,7 @@
 -- Assumes nothing.
 use Prim.Native.Nat.{ℕ, zero, suc, ◌*◌, ◌<◌, ◌≤◌}
 use mathlib.Core.Path.{◌≡◌, refl}
-use mathlib.Core.Bool.{Bool, true, false, ◌&&◌}
+use mathlib.Core.Bool.{Bool, true, false}
 use mathlib.Core.List.{List}
 use lib.Dec.{ltb}
 use native.Mathlib.Omega.{arith}
@@ -17,7 +17,7 @@ use Rattle.pack.specs.declared.counts.Counts.{Counts}
 use Rattle.pack.specs.declared.rows.TypeRow.{TypeRow}
 use Rattle.pack.specs.declared.rows.DefinitionRow.{DefinitionRow}
 use Rattle.lists.specs.Limits.{names, variables}
-use Rattle.lists.specs.Lists.{list_fits, words_of, ids_fit, item_fits, items_fit}
+use Rattle.lists.specs.Lists.{list_fits, words_of, item_fits, items_fit}
 use Rattle.lists.specs.Names.{Named}
 use Rattle.rows.specs.Tables.{rows_in}
 use Rattle.rows.specs.Types.{type_in_range, fault_of}

@@ -1,5 +1,5 @@
 -- "rows in table order": the five tables, 0 types, 1 definitions, 2 expressions, 3 roots, 4 values.
-use Rattle.std.specs.Prelude.{ℕ, Bool, true, false, List, [], ◌∷◌, eqb, get_or}
+use Rattle.std.specs.Prelude.{ℕ, List, [], ◌∷◌, eqb, get_or}
 use Rattle.laws.specs.Choice.{by_kind}
 use Rattle.laws.specs.First.{first}
 use Rattle.pack.specs.Answer.{refuse, passes}

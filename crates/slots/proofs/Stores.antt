@@ -2,11 +2,9 @@
 -- Assumes nothing.
 use Prim.Native.Nat.{ℕ, ◌<◌}
 use mathlib.Core.Path.{◌≡◌, sym, ap, subst, ◌∙◌}
-use mathlib.Core.Bool.{Bool, true, false}
 use mathlib.Core.List.{List}
 use lib.ListN.{length, get_or, set, length-set, get_or-eq_default}
 use lib.Seq.{get_or-set_same}
-use Rattle.laws.specs.Choice.{pick}
 use Rattle.laws.specs.Bounded.{get, put}
 use Rattle.laws.proofs.Bounded.{get_in, get_out, put_in, get_other, by_bound}
 use Rattle.laws.proofs.Choice.{by_eq}

@@ -9,12 +9,12 @@
 use mathlib.Core.Path.{◌≡◌, refl, sym, ap, ◌∙◌}
 use mathlib.Core.List.{List}
 use mathlib.Core.Bool.{Bool, true, false, not, ◌&&◌, ◌||◌, or_assoc}
-use Prim.Native.Nat.{ℕ, zero, suc, ◌+◌, ◌-◌, ◌*◌, ◌/◌, ◌%◌, ◌<◌, ◌≤◌}
+use Prim.Native.Nat.{ℕ, ◌+◌, ◌-◌, ◌*◌, ◌/◌, ◌%◌, ◌<◌, ◌≤◌}
 use native.Mathlib.Omega.{arith}
-use lib.Dec.{eqb, ltb, leb}
+use lib.Dec.{eqb, ltb}
 use lib.ListN.{length, get_or, set, length-set, replicate, length-replicate}
 use lib.Seq.{get_or-set_same, get_or-set_other}
-use borrow.Author.Tests.{eqb-true, eqb-false, eq-eqb, ne_eqb, leb-true, lt-ltb, le-ltb, ltb-true, ltb-false, not-true, not-false}
+use borrow.Author.Tests.{eqb-true, eqb-false, eq-eqb, ne_eqb, leb-true, lt-ltb, le-ltb, ltb-true, ltb-false, not-true}
 use Rattle.laws.specs.Choice.{pick}
 use Rattle.laws.specs.First.{all}
 use Rattle.laws.specs.Lists.{bit}
@@ -28,24 +28,23 @@ use Rattle.pack.specs.Lists.{list_word}
 use Rattle.pack.specs.Named.{parts_of}
 use Rattle.pack.specs.declared.counts.Counts.{Counts}
 use Rattle.unionfind.proofs.Chains.{not_both}
-use Rattle.structure.specs.Structure.{rows, PartsSmaller, number_of, equal, row_number, is_var_kind, any_of, holds}
-use Rattle.structure.specs.Lists.{words, slot_of, len_at, part_at, sort_of, span_of, Within, fits, part_place, Spot, part, name, seen}
-use Rattle.structure.specs.Table.{Clear, entry, like, held_in, code_at, first_of, key_of, mark_of, has_key, Hit, Numbers}
-use Rattle.structure.specs.Facts.{slots, has_list, Finds, used, walked, searched, HeldTold, FactsTold, ListKept, RowKept}
-use Rattle.structure.specs.Words.{looks, look_at, odd_from, Read, Noted, WordsHeld}
-use Rattle.structure.specs.Tree.{cells_len, cell_at, sorts, root_at, place_of, member_key, Says, Compared, Apart, Ended, old, fork, Below, ended, missed, Finding, first, below, Grown, Walked, Shape}
-use Rattle.structure.specs.Buckets.{bucket_of}
+use Rattle.structure.specs.Structure.{rows, PartsSmaller, equal, row_number, is_var_kind, any_of, holds}
+use Rattle.structure.specs.Lists.{words, len_at, part_at, sort_of, Within, fits, part_place, Spot, part, name, seen}
+use Rattle.structure.specs.Table.{Clear, entry, held_in, code_at, first_of, key_of, mark_of, has_key, Hit, Numbers}
+use Rattle.structure.specs.Facts.{slots, has_list, Finds, used, walked, searched, FactsTold, ListKept, RowKept}
+use Rattle.structure.specs.Words.{looks, look_at, Read, Noted, WordsHeld}
+use Rattle.structure.specs.Tree.{cells_len, cell_at, sorts, root_at, place_of, member_key, Says, Compared, Apart, Ended, old, fork, ended, missed, Finding, first, below, Grown, Walked, Shape}
 use Rattle.structure.specs.declared.tree.Stop.{Stop}
 use Rattle.structure.specs.declared.finding.Found.{Found}
 use Rattle.structure.specs.declared.facts.ListFacts.{ListFacts}
 use Rattle.structure.proofs.Arrays.{zeros_at, Filled, filled_none, filled_more, filled_entry, Empty, empty_more}
 use Rattle.structure.proofs.Pairs.{both_true, bit_test, bit_zero}
 use Rattle.structure.proofs.Flat.{part_in, return_in, AnyPart, any_part}
-use Rattle.structure.proofs.Reps.{rep, Equivalence, rep_le, rep_is, rep_same, rep_none}
+use Rattle.structure.proofs.Reps.{rep_le, rep_is, rep_same, rep_none}
 use Rattle.structure.proofs.Equal.{equivalence, equal_number, number_equal, number_le, holds_step, holds_equal}
 use Rattle.structure.proofs.Keys.{slot_at, Like, is_like, like_is, row_like, like_equivalence, Agree, like_agree, list_number, row_key, key_of_lem, equal_key, key_equal}
 use Rattle.structure.proofs.Spots.{span_pairs, span_types, look_is, spot_small}
-use Rattle.structure.proofs.Views.{sort_half, sort_odd, part_word, part_below, seen_part, like_seen, seen_like, look_seen}
+use Rattle.structure.proofs.Views.{sort_half, sort_odd, part_word, part_below, like_seen, seen_like, look_seen}
 use Rattle.structure.proofs.Forest.{Forest, forest_none, forest_same, forest_root, forest_member, forest_fork, met, fork_view, row_sort}
 
 -- three tests, of which the last two are others

@@ -6,15 +6,14 @@
 use mathlib.Core.Path.{◌≡◌, refl, sym, ap, ◌∙◌}
 use mathlib.Core.List.{List}
 use mathlib.Core.Bool.{Bool, true, false}
-use Prim.Native.Nat.{ℕ, ◌+◌, ◌-◌, ◌%◌, ◌<◌, ◌≤◌}
+use Prim.Native.Nat.{ℕ, ◌+◌, ◌-◌, ◌<◌, ◌≤◌}
 use native.Mathlib.Omega.{arith}
-use lib.ListN.{length, get_or, set, length-set, replicate, length-replicate}
-use lib.Dec.{leb, eqb}
+use lib.ListN.{get_or, set, length-set, replicate, length-replicate}
+use lib.Dec.{leb}
 use borrow.Author.Tests.{leb-true, leb-false, eqb-true}
 use Rattle.laws.specs.Bounded.{get}
 use Rattle.laws.proofs.Bounded.{get_in}
-use Rattle.laws.proofs.Choice.{by_eq, by_test, and_both}
-use Rattle.unionfind.proofs.Chains.{not_both}
+use Rattle.laws.proofs.Choice.{by_eq, by_test}
 use Rattle.structure.specs.Structure.{rows}
 use Rattle.structure.specs.Table.{entry, has_key, Hit}
 use Rattle.structure.specs.Buckets.{buckets, bucket_of, head_at, Links, Chained}

@@ -6,8 +6,8 @@
 --     holds_step, holds_equal        whether a row holds a variable, one level down, and of equal rows alike
 -- Assumes nothing.
 use mathlib.Core.Path.{◌≡◌, refl, sym, ap, ◌∙◌}
-use mathlib.Core.List.{List, [], ◌∷◌}
-use mathlib.Core.Bool.{Bool, true, false, not, ◌&&◌, ◌||◌}
+use mathlib.Core.List.{List}
+use mathlib.Core.Bool.{Bool, true, ◌&&◌, ◌||◌}
 use Prim.Native.Nat.{ℕ, zero, suc, ◌+◌, ◌<◌, ◌≤◌}
 use native.Mathlib.Nat.{not-suc-le-zero}
 use native.Mathlib.Omega.{arith}
@@ -20,10 +20,9 @@ use Rattle.pack.specs.Rows.{type_row}
 use Rattle.pack.specs.Named.{parts_of}
 use Rattle.pack.specs.declared.counts.Counts.{Counts}
 use Rattle.structure.specs.Structure.{PartsSmaller, number_of, names_of, pairwise, alike, equal_in, equal, row_number, is_var_kind, any_of, holds_in, holds}
-use Rattle.structure.specs.Lists.{slot_of, len_at, part_at}
 use Rattle.structure.proofs.Pairs.{any_map, pairwise_any}
-use Rattle.structure.proofs.Flat.{Flat, flat_of, of_flat, part_in, return_in, AnyPart, any_part}
-use Rattle.structure.proofs.Reps.{rep, Equivalence, rep_le, rep_same, rep_equal}
+use Rattle.structure.proofs.Flat.{Flat, flat_of, of_flat, part_in, return_in}
+use Rattle.structure.proofs.Reps.{Equivalence, rep_le, rep_same, rep_equal}
 
 -- ---- rows alike, from one relation of parts to another
 

@@ -4,26 +4,24 @@
 --     part_in, return_in          the types of a row's list, and what a function returns, are parts of it
 --     holds-flat                  whether a part holds something
 -- Assumes nothing.
-use mathlib.Core.Path.{◌≡◌, refl, sym, ap, subst, ◌∙◌}
-use mathlib.Core.Logic.{◌⊎◌, inl, inr, ⊎_elim}
+use mathlib.Core.Path.{◌≡◌, refl, sym, subst, ◌∙◌}
 use mathlib.Core.List.{List, [], ◌∷◌}
-use mathlib.Core.Bool.{Bool, true, false, not, ◌&&◌, ◌||◌}
+use mathlib.Core.Bool.{Bool, true, false, ◌&&◌, ◌||◌}
 use Prim.Native.Nat.{ℕ, zero, suc, ◌+◌, ◌*◌, ◌/◌, ◌%◌, ◌<◌, ◌≤◌}
-use native.Mathlib.Nat.{zero-add, not-suc-le-zero}
+use native.Mathlib.Nat.{zero-add}
 use native.Mathlib.Omega.{arith}
-use lib.Dec.{eqb, ltb}
+use lib.Dec.{eqb}
 use borrow.Author.Tests.{eqb-true, eq-eqb, ne_eqb, lt-ltb}
 use Rattle.laws.specs.Choice.{pick, by_kind}
 use Rattle.laws.specs.Lists.{In, gather}
-use Rattle.laws.proofs.Choice.{yes, no, and_both, by_test, fails}
+use Rattle.laws.proofs.Choice.{no, and_both, by_test}
 use Rattle.laws.proofs.Lists.{in_gather, count_same}
-use Rattle.pack.specs.Read.{row32}
 use Rattle.pack.specs.Rows.{type_row}
 use Rattle.pack.specs.Lists.{list_len, list_item}
 use Rattle.pack.specs.Named.{parts_of, type_parts_of, items_of, seconds_of}
 use Rattle.pack.specs.declared.counts.Counts.{Counts}
 use Rattle.pack.specs.declared.rows.TypeRow.{TypeRow}
-use Rattle.structure.specs.Structure.{numbered, number_of, paired, names_of, pairwise, alike, any_of}
+use Rattle.structure.specs.Structure.{number_of, paired, names_of, pairwise, alike, any_of}
 use Rattle.structure.specs.Lists.{no_list, listed, slot_of, of_pairs, len_at, name_at, part_at}
 use Rattle.structure.proofs.Pairs.{both_true, each, pairwise_len, pairwise_from, pairwise_all, any_at, any_none}
 

@@ -9,7 +9,7 @@
 use mathlib.Core.Path.{◌≡◌, refl, sym, ap, ◌∙◌}
 use mathlib.Core.List.{List}
 use mathlib.Core.Logic.{◌⊎◌, inl, inr, ⊎_elim}
-use mathlib.Core.Bool.{Bool, true, false}
+use mathlib.Core.Bool.{Bool}
 use Prim.Native.Nat.{ℕ, ◌+◌, ◌-◌, ◌*◌, ◌/◌, ◌%◌, ◌<◌, ◌≤◌}
 use native.Mathlib.Omega.{arith}
 use lib.Dec.{eqb}
@@ -17,15 +17,13 @@ use lib.ListN.{length, set, length-set, replicate, length-replicate}
 use borrow.Author.Tests.{eq-eqb, ne_eqb}
 use Rattle.laws.specs.Bounded.{get}
 use Rattle.laws.specs.Choice.{pick}
-use Rattle.laws.proofs.Bounded.{get_out}
 use Rattle.laws.proofs.Choice.{yes, no, by_eq}
 use Rattle.pack.specs.declared.counts.Counts.{Counts}
 use Rattle.structure.specs.Structure.{rows}
 use Rattle.structure.specs.Lists.{Spot}
 use Rattle.structure.specs.Table.{entry}
 use Rattle.structure.specs.Buckets.{buckets, bucket_of}
-use Rattle.structure.specs.Tree.{cells_len, cell_at, sorts, root_at, place_of, own_of, member_key, Step, passes, turns, Leads, here, more, New, Walked, Says, Ended, old, fork, Missed, Below, ended, missed, Finding, first, below, Small, Shape, RootsLow, Grown}
-use Rattle.structure.specs.Words.{look_at}
+use Rattle.structure.specs.Tree.{cells_len, cell_at, sorts, place_of, own_of, member_key, Step, passes, turns, Leads, here, more, New, Walked, Says, old, fork, Below, ended, missed, first, below, Shape, RootsLow, Grown}
 use Rattle.structure.specs.Facts.{Finds, used, walked, searched}
 use Rattle.structure.specs.declared.tree.Stop.{Stop}
 use Rattle.structure.specs.declared.finding.Found.{Found}

@@ -3,16 +3,15 @@
 --     like-part                    it is the same with another numbering that agrees on their types
 --     key_equal, equal_key         rows by their keys
 -- Assumes nothing.
-use mathlib.Core.Path.{◌≡◌, refl, sym, ap, ◌∙◌}
+use mathlib.Core.Path.{◌≡◌, refl, sym, ◌∙◌}
 use mathlib.Core.List.{List}
-use mathlib.Core.Bool.{Bool, true, false, not, ◌&&◌, ◌||◌}
-use Prim.Native.Nat.{ℕ, zero, suc, ◌+◌, ◌*◌, ◌%◌, ◌<◌, ◌≤◌}
+use mathlib.Core.Bool.{Bool, true}
+use Prim.Native.Nat.{ℕ, ◌+◌, ◌*◌, ◌%◌, ◌<◌}
 use native.Mathlib.Omega.{arith}
 use lib.Dec.{eqb}
 use borrow.Author.Tests.{eqb-true, eq-eqb, ne_eqb}
 use Rattle.laws.specs.Choice.{pick}
 use Rattle.laws.specs.First.{all}
-use Rattle.laws.proofs.Tests.{same_test}
 use Rattle.laws.proofs.First.{all_true, all_each}
 use Rattle.laws.proofs.Choice.{yes, no, by_test, by_eq, and_both}
 use Rattle.pack.specs.Rows.{type_row}
@@ -22,10 +21,9 @@ use Rattle.structure.specs.Structure.{rows, PartsSmaller, paired, numbered, numb
 use Rattle.structure.specs.Lists.{no_list, listed, slot_of, sort_of, len_at, name_at, part_at}
 use Rattle.structure.specs.Table.{like_at, like, first_of, key_of}
 use Rattle.structure.proofs.Pairs.{both_true}
-use Rattle.structure.proofs.Flat.{Flat, part_in, return_in}
 use Rattle.structure.proofs.Reading.{number_small, number_of_small}
 use Rattle.structure.proofs.Reps.{rep, Equivalence, rep_le, rep_same, rep_equal}
-use Rattle.structure.proofs.Equal.{number_le, by_number, equal_flat, flat_equal}
+use Rattle.structure.proofs.Equal.{number_le, equal_flat, flat_equal}
 
 -- ---- lists
 

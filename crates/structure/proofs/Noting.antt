@@ -2,13 +2,13 @@
 -- Assumes nothing.
 use mathlib.Core.Path.{◌≡◌, refl, sym, ap, ◌∙◌}
 use mathlib.Core.List.{List}
-use mathlib.Core.Bool.{Bool, true, false}
+use mathlib.Core.Bool.{true, false}
 use Prim.Native.Nat.{ℕ, ◌+◌, ◌-◌, ◌<◌, ◌≤◌}
 use native.Mathlib.Omega.{arith}
 use lib.Dec.{eqb, leb}
 use lib.ListN.{length, get_or, set, length-set}
 use Rattle.laws.proofs.Bounded.{get_in}
-use borrow.Author.Tests.{eqb-true, eqb-false, ne_eqb, leb-true, leb-false}
+use borrow.Author.Tests.{ne_eqb, leb-true, leb-false}
 use Rattle.laws.specs.Choice.{pick}
 use Rattle.laws.specs.Bounded.{get}
 use Rattle.laws.proofs.Choice.{yes, no, by_test, by_eq}
@@ -19,7 +19,6 @@ use Rattle.structure.specs.Lists.{words}
 use Rattle.structure.specs.Buckets.{buckets, bucket_of, head_at, Links}
 use Rattle.structure.specs.Words.{looks, word_in, Read, Noted}
 use Rattle.structure.proofs.Arrays.{set_here, set_there}
-use Rattle.structure.proofs.Chaining.{bucket_small}
 
 pub len_word : (p : List ℕ) (c : Counts) (j : ℕ) → list_len p c j ≡ list_word p c j
 unfolding list_len

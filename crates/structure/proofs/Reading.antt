@@ -2,21 +2,17 @@
 -- Assumes nothing.
 use mathlib.Core.Path.{◌≡◌, refl, sym, ap, ◌∙◌}
 use mathlib.Core.List.{List}
-use mathlib.Core.Bool.{Bool, true, false, not}
-use Prim.Native.Nat.{ℕ, suc, ◌+◌, ◌*◌, ◌<◌}
-use native.Mathlib.Numerals.{add-one}
+use mathlib.Core.Bool.{Bool, true, false}
+use Prim.Native.Nat.{ℕ, ◌+◌, ◌*◌, ◌<◌}
 use native.Mathlib.Omega.{arith}
 use lib.Dec.{eqb}
 use borrow.Author.Tests.{eq-eqb, ne_eqb}
-use Rattle.laws.specs.Choice.{pick}
-use Rattle.laws.specs.First.{all}
 use Rattle.laws.proofs.Choice.{yes, no, by_test}
 use Rattle.laws.specs.Bounded.{Reads}
 use Rattle.pack.specs.Rows.{type_row}
-use Rattle.pack.specs.declared.counts.Counts.{Counts}
 use Rattle.pack.specs.declared.rows.TypeRow.{TypeRow}
 use Rattle.structure.specs.Structure.{paired, numbered, number_of}
-use Rattle.structure.specs.Lists.{no_list, listed, slot_of, len_at}
+use Rattle.structure.specs.Lists.{no_list, listed, slot_of}
 use Rattle.structure.specs.Table.{first_of}
 use Rattle.structure.proofs.Flat.{start_small}
 

@@ -3,19 +3,18 @@
 use mathlib.Core.Path.{◌≡◌, refl, sym, ap, ◌∙◌}
 use mathlib.Core.List.{List}
 use mathlib.Core.Bool.{Bool, true, false, not}
-use Prim.Native.Nat.{ℕ, ◌+◌, ◌-◌, ◌*◌, ◌/◌, ◌%◌, ◌<◌, ◌≤◌}
+use Prim.Native.Nat.{ℕ, ◌+◌, ◌*◌, ◌/◌, ◌%◌, ◌<◌, ◌≤◌}
 use native.Mathlib.Omega.{arith}
-use lib.Dec.{eqb, ltb, leb}
+use lib.Dec.{eqb, leb}
 use borrow.Author.Tests.{leb-true, eqb-true, eqb-false, eq-eqb, ne_eqb}
-use Rattle.laws.specs.Choice.{pick}
 use Rattle.laws.specs.First.{until}
 use Rattle.laws.specs.Bounded.{get}
 use Rattle.laws.proofs.First.{Until, until_is, all_true}
 use Rattle.laws.proofs.Tests.{all_same}
-use Rattle.laws.proofs.Choice.{yes, no, by_test, by_eq}
-use Rattle.structure.specs.Lists.{words, span_of, name_place, part_place, Spot, part, name, Within}
+use Rattle.laws.proofs.Choice.{yes, no, by_eq}
+use Rattle.structure.specs.Lists.{words, span_of, part_place, Spot, part, name, Within}
 use Rattle.structure.specs.Words.{looks, look_at, odd_from}
-use Rattle.structure.specs.Tree.{Apart, Compared}
+use Rattle.structure.specs.Tree.{Apart}
 
 pub span_pairs : (sort : ℕ) → sort % 2 ≡ 1 → 2 * (sort / 2) ≡ span_of sort
 unfolding span_of

@@ -6,24 +6,22 @@
 -- Assumes nothing.
 use mathlib.Core.Path.{◌≡◌, refl, sym, ap, ◌∙◌}
 use mathlib.Core.List.{List, [], ◌∷◌}
-use mathlib.Core.Bool.{Bool, true, false, not, ◌&&◌, ◌||◌}
-use Prim.Native.Nat.{ℕ, zero, suc, ◌+◌, ◌*◌, ◌/◌, ◌%◌, ◌<◌, ◌≤◌}
+use mathlib.Core.Bool.{true, false, not, ◌&&◌, ◌||◌}
+use Prim.Native.Nat.{ℕ, zero, suc, ◌%◌, ◌<◌, ◌≤◌}
 use native.Mathlib.Omega.{arith}
 use lib.Dec.{eqb, ltb}
 use lib.ListN.{get_or}
-use borrow.Author.Tests.{eqb-true, eqb-false, eq-eqb, ne_eqb, lt-ltb}
+use borrow.Author.Tests.{eqb-true, eq-eqb, ne_eqb, lt-ltb}
 use Rattle.laws.specs.Choice.{pick}
 use Rattle.laws.specs.Lists.{bit}
-use Rattle.laws.specs.Bounded.{get}
 use Rattle.laws.proofs.Bounded.{get_in}
-use Rattle.laws.proofs.Choice.{yes, no, by_test, by_eq, and_both, fails}
+use Rattle.laws.proofs.Choice.{yes, no, by_test, by_eq, and_both}
 use Rattle.pack.specs.Rows.{type_row}
 use Rattle.pack.specs.Lists.{list_len}
-use Rattle.pack.specs.Named.{parts_of}
 use Rattle.pack.specs.declared.counts.Counts.{Counts}
 use Rattle.unionfind.specs.Codes.{numbers, code, tag, number, never_tag, unit_tag, primitive_tag, row_tag, any_tag, int_tag, float_tag, definition_tag, is_var}
 use Rattle.unionfind.proofs.Chains.{not_both}
-use Rattle.structure.specs.Structure.{rows, PartsSmaller, paired, numbered, number_of, equal, row_number, is_var_kind, any_of, holds}
+use Rattle.structure.specs.Structure.{rows, PartsSmaller, paired, numbered, number_of, equal, row_number, is_var_kind, holds}
 use Rattle.structure.specs.Lists.{listed, slot_of, len_at}
 use Rattle.structure.specs.Table.{entry, Numbers}
 use Rattle.structure.specs.Types.{var_code, plain_code, is_bare, code_for, code_of, code_in, holds_var}

@@ -2,22 +2,18 @@
 -- Assumes nothing.
 use mathlib.Core.Path.{◌≡◌, refl, sym, ap, ◌∙◌}
 use mathlib.Core.List.{List}
-use mathlib.Core.Bool.{Bool, true, false, not}
-use Prim.Native.Nat.{ℕ, ◌+◌, ◌-◌, ◌*◌, ◌/◌, ◌%◌, ◌<◌, ◌≤◌}
+use Prim.Native.Nat.{ℕ, ◌+◌, ◌-◌, ◌*◌, ◌/◌, ◌%◌, ◌<◌}
 use native.Mathlib.Omega.{arith}
 use lib.Dec.{eqb, ltb}
 use borrow.Author.Tests.{eq-eqb, ne_eqb, lt-ltb, le-ltb}
-use Rattle.laws.specs.Choice.{pick}
-use Rattle.laws.specs.First.{all}
 use Rattle.laws.specs.Bounded.{get}
 use Rattle.laws.proofs.Choice.{yes, no, by_eq}
-use Rattle.laws.proofs.Tests.{all_same}
 use Rattle.pack.specs.Lists.{list_word, list_item}
 use Rattle.pack.specs.declared.counts.Counts.{Counts}
-use Rattle.structure.specs.Lists.{words, of_pairs, len_at, name_at, part_at, sort_of, span_of, Within, name_place, part_place, Spot, part, name, seen}
+use Rattle.structure.specs.Lists.{words, of_pairs, len_at, name_at, part_at, sort_of, Within, name_place, part_place, Spot, part, name, seen}
 use Rattle.structure.specs.Words.{looks, look_at}
 use Rattle.structure.proofs.Keys.{Like, sort_len}
-use Rattle.structure.proofs.Spots.{span_pairs, span_types, place_pairs, place_types, look_is, spot_small}
+use Rattle.structure.proofs.Spots.{span_pairs, span_types, place_pairs, place_types, look_is}
 
 module _ (p : List ℕ) (c : Counts) where
   pub sort_half : (s : ℕ) → sort_of p c s / 2 ≡ len_at p c s

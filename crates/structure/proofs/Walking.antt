@@ -8,13 +8,13 @@ use native.Mathlib.Omega.{arith}
 use lib.Dec.{eqb}
 use lib.ListN.{get_or}
 use borrow.Author.Tests.{eqb-true, eqb-false}
-use Rattle.laws.proofs.Choice.{fails, by_eq}
+use Rattle.laws.proofs.Choice.{fails}
 use Rattle.laws.specs.Bounded.{Reads}
 use Rattle.laws.proofs.Bounded.{get_in}
 use Rattle.structure.specs.Structure.{rows}
 use Rattle.structure.specs.Table.{entry, has_key, Hit}
 use Rattle.structure.specs.Buckets.{buckets, bucket_of, head_at}
-use Rattle.structure.specs.Tree.{cells_len, cell_at, place_of, own_of, member_key, Step, passes, turns, Leads, here, more, New, Small, Shape, Passing, Passed, Turned, Walked}
+use Rattle.structure.specs.Tree.{cells_len, cell_at, place_of, own_of, member_key, Step, passes, turns, Leads, here, more, Small, Shape, Passing, Passed, Turned, Walked}
 use Rattle.structure.specs.Words.{look_at}
 use Rattle.structure.specs.declared.tree.Stop.{Stop}
 use Rattle.unionfind.proofs.Chains.{not_both}

@@ -1,6 +1,6 @@
 -- Rows below i in chains, so that a search looks only at those whose value falls into the same bucket. A head and a link hold one more than
 -- a row, or 0; links lead to smaller rows.
-use Rattle.std.specs.Prelude.{◌≡◌, List, Bool, true, ℕ, ◌-◌, ◌%◌, ◌<◌, ◌≤◌, length}
+use Rattle.std.specs.Prelude.{◌≡◌, List, ℕ, ◌-◌, ◌%◌, ◌<◌, ◌≤◌, length}
 use Rattle.laws.specs.Bounded.{get}
 use Rattle.structure.specs.Structure.{rows}
 use Rattle.structure.specs.Table.{entry}

@@ -1,16 +1,15 @@
 -- What is told of a row's list: of one that looks like an earlier list what was kept of that, of a new one what is read.
-use Rattle.std.specs.Prelude.{◌≡◌, List, Bool, true, false, ℕ, ◌+◌, ◌-◌, ◌*◌, ◌%◌, ◌<◌, ◌≤◌, eqb, ltb, set}
+use Rattle.std.specs.Prelude.{◌≡◌, List, Bool, true, false, ℕ, ◌+◌, ◌<◌, ◌≤◌, ltb, set}
 use Rattle.laws.specs.Choice.{pick}
 use Rattle.laws.specs.Lists.{bit}
 use Rattle.laws.specs.Bounded.{get, put}
 use Rattle.pack.specs.Rows.{type_row}
 use Rattle.pack.specs.declared.counts.Counts.{Counts}
-use Rattle.structure.specs.Structure.{rows}
 use Rattle.structure.specs.Lists.{slot_of, sort_of}
 use Rattle.structure.specs.Table.{entry, like, held_in, first_of, key_of, mark_of, has_key, Hit}
 use Rattle.structure.specs.Buckets.{Chained}
 use Rattle.structure.specs.Words.{WordsHeld}
-use Rattle.structure.specs.Tree.{Says, Finding, Grown, Shape, RootsLow}
+use Rattle.structure.specs.Tree.{Says, Finding, Grown}
 use Rattle.structure.specs.declared.facts.ListFacts.{ListFacts}
 use Rattle.structure.specs.declared.finding.Found.{Found}
 

@@ -1,14 +1,11 @@
 -- A row's list as the table reads it. A list is named by a slot: twice its start, and one more where it is one of pairs; rows without a
 -- list share the slot after all of these.
-use Rattle.std.specs.Prelude.{List, Bool, not, ◌&&◌, ◌||◌, ℕ, zero, suc, ◌+◌, ◌-◌, ◌*◌, ◌/◌, ◌%◌, ◌<◌, ◌≤◌, ◌≡◌, eqb, ltb, leb}
+use Rattle.std.specs.Prelude.{List, Bool, ◌||◌, ℕ, ◌+◌, ◌-◌, ◌*◌, ◌/◌, ◌%◌, ◌<◌, ◌≤◌, ◌≡◌, eqb, ltb, leb}
 use Rattle.laws.specs.Choice.{pick}
-use Rattle.laws.specs.First.{all}
-use Rattle.laws.specs.Lists.{bit}
-use Rattle.pack.specs.Rows.{type_row}
 use Rattle.pack.specs.Lists.{list_word, list_len, list_item}
 use Rattle.pack.specs.declared.counts.Counts.{Counts}
 use Rattle.pack.specs.declared.rows.TypeRow.{TypeRow}
-use Rattle.structure.specs.Structure.{paired, number_of}
+use Rattle.structure.specs.Structure.{paired}
 
 -- starts have 14 bits
 abbrev pub no_list : ℕ

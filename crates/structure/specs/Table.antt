@@ -1,17 +1,16 @@
 -- How the table of structures is built: what the functions below `number_rows` answer. Rows are numbered from the smallest up, so the
 -- numbers of a row's parts are there when it is reached: f gives them. The lists of rows are numbered apart from the rows, by the first
 -- row whose list looks the same; then a row is its kind, its number (or what it returns) and its list's number, which make one key.
-use Rattle.std.specs.Prelude.{◌≡◌, List, Bool, true, false, not, ◌&&◌, ◌||◌, ℕ, zero, suc, ◌+◌, ◌-◌, ◌*◌, ◌%◌, ◌<◌, ◌≤◌, eqb, ltb, length, get_or}
+use Rattle.std.specs.Prelude.{◌≡◌, List, Bool, true, false, not, ◌&&◌, ◌||◌, ℕ, ◌+◌, ◌*◌, ◌%◌, ◌<◌, ◌≤◌, eqb, length, get_or}
 use Rattle.laws.specs.Choice.{pick}
 use Rattle.laws.specs.First.{all}
 use Rattle.laws.specs.Lists.{bit}
 use Rattle.laws.specs.Bounded.{get}
-use Rattle.pack.specs.Rows.{type_row}
 use Rattle.pack.specs.declared.counts.Counts.{Counts}
 use Rattle.pack.specs.declared.rows.TypeRow.{TypeRow}
 use Rattle.unionfind.specs.Codes.{numbers}
 use Rattle.structure.specs.Structure.{rows, PartsSmaller, number_of, is_var_kind, row_number, holds}
-use Rattle.structure.specs.Lists.{slot_of, sort_of, len_at, name_at, part_at}
+use Rattle.structure.specs.Lists.{sort_of, len_at, name_at, part_at}
 
 -- an array of the table with nothing in it
 pub record Clear (xs : List ℕ) : Type 0 where

@@ -11,7 +11,7 @@ use Rattle.laws.specs.Choice.{pick}
 use Rattle.laws.specs.Bounded.{get}
 use Rattle.pack.specs.Rows.{type_row}
 use Rattle.structure.specs.Structure.{rows}
-use Rattle.structure.specs.Lists.{words, slot_of, span_of, Within, Spot}
+use Rattle.structure.specs.Lists.{words, slot_of, Within, Spot}
 use Rattle.structure.specs.Table.{entry}
 use Rattle.structure.specs.Buckets.{buckets, bucket_of}
 use Rattle.structure.specs.Words.{looks, look_at}

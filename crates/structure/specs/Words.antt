@@ -1,6 +1,6 @@
 -- What is kept of each list word: the word, and what is known of the type that it names. Words of one value are chained, so that a type's
 -- are found when its row is done.
-use Rattle.std.specs.Prelude.{◌≡◌, List, Bool, false, not, ℕ, ◌+◌, ◌*◌, ◌/◌, ◌%◌, ◌<◌, eqb, length}
+use Rattle.std.specs.Prelude.{◌≡◌, List, Bool, false, not, ℕ, ◌+◌, ◌/◌, ◌%◌, ◌<◌, eqb, length}
 use Rattle.laws.specs.Choice.{pick}
 use Rattle.laws.specs.First.{all}
 use Rattle.laws.specs.Bounded.{get}

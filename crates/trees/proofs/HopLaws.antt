@@ -6,21 +6,20 @@
 -- Assumes nothing.
 use Prim.Native.Nat.{ℕ, zero, suc, ◌+◌, ◌*◌, ◌-◌, ◌≤◌, ◌<◌}
 use mathlib.Core.Path.{◌≡◌, refl, sym, ap, ap₂, ◌∙◌}
-use mathlib.Core.Bool.{Bool, true, false, ◌&&◌, ◌||◌}
+use mathlib.Core.Bool.{Bool, true, ◌&&◌}
 use mathlib.Core.List.{List, [], ◌∷◌, ◌++◌}
 use native.Mathlib.Omega.{arith}
-use native.Mathlib.Nat.{mul-add, mul-zero, add-zero, add-suc, suc-add}
+use native.Mathlib.Nat.{mul-add, mul-zero, add-zero}
 use lib.Dec.{leb, ltb}
 use lib.ListN.{length, get_or, set, replicate, length-set, length-replicate, get_or-replicate}
 use lib.Seq.{get_or-set_same, get_or-set_other}
-use borrow.Author.Tests.{le-leb, lt-leb, leb-true, leb-false, lt-ltb, le-ltb, ltb-true, ltb-false}
-use Rattle.laws.specs.Choice.{pick}
-use Rattle.laws.specs.Bounded.{get, put}
+use borrow.Author.Tests.{le-leb, lt-leb, leb-true, lt-ltb, le-ltb, ltb-true, ltb-false}
+use Rattle.laws.specs.Bounded.{get}
 use Rattle.laws.specs.Lists.{gather}
 use Rattle.laws.proofs.Choice.{yes, no, by_eq, by_test, and_both, fails}
 use Rattle.laws.proofs.Tests.{and_true, or_true, or_false}
 use Rattle.laws.proofs.Bounded.{get_in, put_out, get_other}
-use Rattle.pack.specs.Lists.{list_word, list_len, list_item}
+use Rattle.pack.specs.Lists.{list_word, list_item}
 use Rattle.pack.specs.Named.{optional}
 use Rattle.pack.specs.declared.counts.Counts.{Counts}
 use Rattle.trees.specs.declared.notes.Kids.{Kids}

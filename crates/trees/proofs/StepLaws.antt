@@ -3,10 +3,9 @@
 --     step        one row more
 --     used, stated, deep     the three tests, asked of the notes
 -- Assumes nothing.
-use Prim.Native.Nat.{ℕ, zero, suc, ◌+◌, ◌*◌, ◌-◌, ◌/◌, ◌%◌, ◌≤◌, ◌<◌, min}
-use mathlib.Core.Path.{◌≡◌, refl, sym, ap, ◌∙◌}
-use mathlib.Core.Bool.{Bool, true, false}
-use mathlib.Core.List.{List, [], ◌∷◌, ◌++◌}
+use Prim.Native.Nat.{ℕ, suc, ◌+◌, ◌*◌, ◌-◌, ◌/◌, ◌%◌, ◌≤◌, ◌<◌, min}
+use mathlib.Core.Path.{◌≡◌, sym, ap, ◌∙◌}
+use mathlib.Core.List.{List}
 use native.Mathlib.Omega.{arith}
 use native.Mathlib.Numerals.{add-one}
 use native.Mathlib.Nat.{sub-zero, sub_self}
@@ -19,7 +18,7 @@ use Rattle.laws.proofs.Choice.{by_eq, by_test}
 use Rattle.laws.proofs.Bounded.{get_in}
 use Rattle.laws.proofs.Lists.{count_append}
 use Rattle.pack.specs.Rows.{expression_row}
-use Rattle.pack.specs.Named.{kids_of, statements_of, operands_of, row_statements, row_operands}
+use Rattle.pack.specs.Named.{kids_of, statements_of, operands_of}
 use Rattle.pack.specs.declared.counts.Counts.{Counts}
 use Rattle.trees.specs.Nodes.{bodies_of, uses_of, stated_of, depth_of, used_once, shallow, max_depth}
 use Rattle.trees.specs.Notes.{nodes, Notes, notes, note_all, note_row, below}

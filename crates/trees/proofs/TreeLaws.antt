@@ -7,20 +7,19 @@
 use Prim.Native.Nat.{ℕ, zero, suc, ◌+◌, ◌-◌, ◌≤◌, ◌<◌}
 use mathlib.Core.Path.{◌≡◌, refl, sym, ap, ◌∙◌}
 use mathlib.Core.Bool.{Bool, true, false}
-use mathlib.Core.List.{List, [], ◌∷◌, ◌++◌}
+use mathlib.Core.List.{List}
 use native.Mathlib.Omega.{arith}
 use lib.Dec.{eqb, ltb}
-use borrow.Author.Tests.{eq-eqb, ne_eqb, lt-ltb, le-ltb, eqb-false, ltb-true, ltb-false}
+use borrow.Author.Tests.{eq-eqb, ne_eqb, lt-ltb, le-ltb, eqb-false, ltb-true}
 use Rattle.laws.specs.Choice.{pick}
-use Rattle.laws.specs.First.{until}
 use Rattle.laws.specs.Lists.{count, In, gather}
-use Rattle.laws.proofs.Choice.{yes, no, by_eq, by_test}
-use Rattle.laws.proofs.First.{at_first, none_is, Until, until_is}
+use Rattle.laws.proofs.Choice.{yes, no, by_eq}
+use Rattle.laws.proofs.First.{at_first, none_is, until_is}
 use Rattle.laws.proofs.Lists.{count_append, count_at, in_gather, gather_in}
 use Rattle.pack.specs.Named.{kids_of, statements_of, operands_of}
 use Rattle.pack.specs.declared.counts.Counts.{Counts}
 use Rattle.trees.specs.Nodes.{bodies_of, uses_of, stated_of, parent_of, depth_in, depth_of}
-use Rattle.trees.specs.Trees.{uses_from, Trees}
+use Rattle.trees.specs.Trees.{Trees}
 
 -- a count over all rows, split at row i
 pub at_row : (f : ℕ → List ℕ) (e i x : ℕ) → i < x → count e (gather f 0 x) ≡ count e (gather f 0 i) + (count e (f i) + count e (gather f (suc i) (x - suc i)))

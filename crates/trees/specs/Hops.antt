@@ -1,6 +1,6 @@
 -- Runs of items whose children were all named twice. Naming such a child again changes nothing, so a list that comes over such a run
 -- passes it in one step, however many rows name it and however lists overlap.
-use Rattle.std.specs.Prelude.{ℕ, zero, suc, ◌+◌, ◌*◌, ◌≤◌, ◌<◌, ◌≡◌, Bool, true, ◌&&◌, ◌||◌, List, [], ◌∷◌, ◌++◌, leb, ltb, length, get_or}
+use Rattle.std.specs.Prelude.{ℕ, ◌+◌, ◌*◌, ◌≤◌, ◌<◌, ◌≡◌, Bool, true, ◌&&◌, ◌||◌, List, [], ◌∷◌, ◌++◌, leb, ltb, length, get_or}
 use Rattle.laws.specs.Choice.{pick}
 use Rattle.laws.specs.Bounded.{get}
 use Rattle.laws.specs.Lists.{gather}

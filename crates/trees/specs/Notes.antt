@@ -1,10 +1,10 @@
 -- What the walk over all rows notes of each expression: how often it was named, counted up to 2, and where it was named, if it was named once.
 -- A place is twice a depth (counted up to 65), and one more for a statement of a block.
-use Rattle.std.specs.Prelude.{ℕ, zero, suc, ◌+◌, ◌*◌, ◌/◌, min, List, [], ◌∷◌, ltb}
+use Rattle.std.specs.Prelude.{ℕ, suc, ◌+◌, ◌*◌, ◌/◌, min, List, [], ◌∷◌, ltb}
 use Rattle.laws.specs.Bounded.{get, put}
 use Rattle.laws.specs.Choice.{pick}
 use Rattle.pack.specs.Lists.{list_item}
-use Rattle.pack.specs.Named.{optional, arm_kids, row_statements, row_operands}
+use Rattle.pack.specs.Named.{arm_kids, row_statements, row_operands}
 use Rattle.pack.specs.declared.counts.Counts.{Counts}
 use Rattle.pack.specs.declared.rows.ExpressionRow.{ExpressionRow}
 use Rattle.trees.specs.declared.notes.Kids.{Kids}

@@ -1,16 +1,14 @@
 -- A plan by cases: what a plan says of the two sides.
 -- Assumes nothing.
-use mathlib.Core.Path.{◌≡◌, refl, sym, ap, ◌∙◌}
+use mathlib.Core.Path.{◌≡◌, refl}
 use mathlib.Core.List.{List}
 use mathlib.Core.Bool.{Bool, true, false, ◌&&◌, ◌||◌}
-use Prim.Native.Nat.{ℕ, ◌≤◌}
-use native.Mathlib.Omega.{arith}
+use Prim.Native.Nat.{ℕ}
 use lib.Dec.{eqb}
 use borrow.Author.Tests.{eqb-true}
 use Rattle.laws.specs.Choice.{pick}
-use Rattle.laws.proofs.Choice.{by_test, and_both}
+use Rattle.laws.proofs.Choice.{and_both}
 use Rattle.unionfind.specs.Codes.{tag, number, is_var, any_tag, int_tag, float_tag}
-use Rattle.unionfind.proofs.Chains.{not_both}
 use Rattle.structure.specs.Types.{holds_var}
 use Rattle.unify.specs.Classes.{is_int, is_float, takes}
 use Rattle.unify.specs.Unify.{number_plan, any_plan, plan_of}

@@ -3,12 +3,11 @@
 --     resolved_same     to resolve one side changes nothing of the other
 --     resolved_unset    a resolved side that is a variable is unset, also after the other is resolved
 -- Assumes nothing.
-use mathlib.Core.Path.{◌≡◌, refl, sym, ap, ◌∙◌}
+use mathlib.Core.Path.{◌≡◌, refl, sym, ◌∙◌}
 use mathlib.Core.List.{List}
-use mathlib.Core.Bool.{Bool, true, false}
+use mathlib.Core.Bool.{true, false}
 use Prim.Native.Nat.{ℕ, ◌<◌}
 use native.Mathlib.Omega.{arith}
-use Rattle.laws.specs.Choice.{pick}
 use Rattle.laws.proofs.Choice.{yes, no, by_test}
 use Rattle.unionfind.specs.Codes.{number, is_var}
 use Rattle.unionfind.specs.Cells.{capacity, found, compressed, Kept, Knows, Live}

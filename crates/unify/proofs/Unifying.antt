@@ -7,15 +7,15 @@
 -- Assumes nothing.
 use mathlib.Core.Path.{◌≡◌, refl, sym, ap, ◌∙◌}
 use mathlib.Core.List.{List}
-use mathlib.Core.Bool.{Bool, true, false}
+use mathlib.Core.Bool.{true}
 use Prim.Native.Nat.{ℕ, ◌<◌}
 use native.Mathlib.Omega.{arith}
-use lib.ListN.{get_or, set}
+use lib.ListN.{set}
 use Rattle.laws.specs.Choice.{pick}
 use Rattle.laws.proofs.Choice.{yes, no, by_test}
 use Rattle.unionfind.specs.Codes.{number, is_var}
-use Rattle.unionfind.specs.Cells.{capacity, trail, among, found, LoopFree, Kept, Knows, Live}
-use Rattle.unionfind.specs.Answers.{set_answer, set_cells}
+use Rattle.unionfind.specs.Cells.{capacity, trail, among, found, Kept, Knows, Live}
+use Rattle.unionfind.specs.Answers.{set_answer}
 use Rattle.unionfind.specs.declared.answer.Answer.{Answer}
 use Rattle.unionfind.specs.declared.answer.Answer.TheVariants.{Done}
 use Rattle.unionfind.proofs.Chains.{not_both}

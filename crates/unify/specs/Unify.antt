@@ -1,5 +1,5 @@
 -- "2. Unify (ours). Resolve both sides." Then a plan of the two resolved sides, and what is done by it.
-use Rattle.std.specs.Prelude.{◌≡◌, List, Bool, ◌||◌, ℕ, eqb}
+use Rattle.std.specs.Prelude.{◌≡◌, List, ◌||◌, ℕ, eqb}
 use Rattle.laws.specs.Choice.{pick}
 use Rattle.unionfind.specs.Codes.{tag, number, is_var, any_tag}
 use Rattle.unionfind.specs.Cells.{found, compressed, Kept, Knows, Live}

@@ -14,12 +14,11 @@ use native.Mathlib.Nat.{not-suc-le-zero, le_of_suc-le-suc}
 use native.Mathlib.Omega.{arith}
 use lib.ListN.{length, get_or, set}
 use lib.Seq.{get_or-set_other, set-get_or}
-use lib.Dec.{eqb}
 use borrow.Author.Tests.{eq-eqb, ne_eqb}
 use Rattle.laws.specs.Choice.{pick}
 use Rattle.laws.proofs.Choice.{by_eq, fails}
 use Rattle.unionfind.specs.Codes.{number, is_var}
-use Rattle.unionfind.specs.Cells.{capacity, is_link, trail_in, trail, last_of, found, set_all, compressed, among, Chain, stop, step, LoopFree}
+use Rattle.unionfind.specs.Cells.{capacity, is_link, trail_in, trail, last_of, found, compressed, among, Chain, stop, step, LoopFree}
 
 pub not_both : {b : Bool} → b ≡ false → b ≡ true → ⊥
 not_both p q = fails (sym q ∙ p)

@@ -7,28 +7,27 @@
 -- Assumes nothing.
 use mathlib.Core.Path.{◌≡◌, refl, sym, ap, ◌∙◌}
 use mathlib.Core.List.{List, [], ◌∷◌}
-use mathlib.Core.Bool.{Bool, true, false, ◌&&◌, ◌||◌, and-false}
-use Prim.Native.Nat.{ℕ, zero, suc, ◌+◌, ◌*◌, ◌<◌, ◌≤◌}
+use mathlib.Core.Bool.{Bool, true, false, ◌&&◌, and-false}
+use Prim.Native.Nat.{ℕ, zero, suc, ◌+◌, ◌<◌, ◌≤◌}
 use native.Mathlib.Nat.{not-suc-le-zero, zero-add}
-use native.Mathlib.Numerals.{add-one}
 use native.Mathlib.Omega.{arith}
 use lib.ListN.{length, get_or, set, length-set, replicate, length-replicate}
 use lib.Seq.{get_or-set_same, get_or-set_other, ext_get_or}
-use lib.Dec.{leb, ltb, eqb}
+use lib.Dec.{leb}
 use borrow.Author.Tests.{leb-false, lt-ltb, le-ltb, lt-leb, eq-eqb, ne_eqb}
 use Rattle.laws.specs.Choice.{pick}
-use Rattle.laws.proofs.Choice.{yes, no, by_test, by_eq}
+use Rattle.laws.proofs.Choice.{no, by_test, by_eq}
 use Rattle.laws.proofs.Members.{by_le}
 use Rattle.laws.specs.declared.refusal.Refusal.{Refusal}
-use Rattle.unionfind.specs.Codes.{numbers, number, is_var, any_tag, tag_for, own_code}
+use Rattle.unionfind.specs.Codes.{number, is_var, any_tag, tag_for, own_code}
 use Rattle.unionfind.specs.Cells.{capacity, is_link, trail, found, set_all, compressed, among, Chain, stop, step, LoopFree, Knows, Live}
-use Rattle.unionfind.specs.Answers.{refusal, full, unknown, closes, selves, Empties, set_answer, if_done, set_cells, Sets, fresh_answer, Makes}
+use Rattle.unionfind.specs.Answers.{full, unknown, closes, selves, Empties, set_answer, if_done, set_cells, Sets, fresh_answer, Makes}
 use Rattle.unionfind.specs.declared.codes.Kind.{Kind}
 use Rattle.unionfind.specs.declared.answer.Answer.{Answer}
 use Rattle.unionfind.specs.declared.answer.Answer.TheVariants.{Done, Refused}
 use Rattle.unionfind.specs.declared.answer.Made.TheVariants as made
 use Rattle.unionfind.proofs.Chains.{not_both, is_trail, linked, ended}
-use Rattle.unionfind.proofs.Stores.{link_is_var, no_var_no_link, own_no_link, store_end, store_link, compressed_kept, Unset}
+use Rattle.unionfind.proofs.Stores.{link_is_var, own_no_link, store_end, store_link, compressed_kept, Unset}
 
 -- ---- set
 

@@ -1,14 +1,14 @@
 -- A step of each walk along a chain: what the code's test of the cell says, and what follows from the walk from the next cell on.
 -- Assumes nothing.
-use mathlib.Core.Path.{◌≡◌, refl, sym, ◌∙◌}
-use mathlib.Core.List.{List, [], ◌∷◌}
+use mathlib.Core.Path.{◌≡◌, sym, ◌∙◌}
+use mathlib.Core.List.{List}
 use mathlib.Core.Bool.{Bool, true, false}
-use Prim.Native.Nat.{ℕ, suc, ◌<◌}
+use Prim.Native.Nat.{ℕ, ◌<◌}
 use native.Mathlib.Omega.{arith}
 use lib.ListN.{length, get_or, set}
-use borrow.Author.Tests.{eq-eqb, ne_eqb}
+use borrow.Author.Tests.{ne_eqb}
 use Rattle.unionfind.specs.Codes.{number}
-use Rattle.unionfind.specs.Cells.{capacity, is_link, trail_in, trail, found, compressed, among, Chain, stop, step, LoopFree}
+use Rattle.unionfind.specs.Cells.{capacity, is_link, trail, found, compressed, among, LoopFree}
 use Rattle.unionfind.specs.Answers.{Finds}
 use Rattle.unionfind.proofs.Chains.{head_among, is_trail, link_step, end_step}
 use Rattle.unionfind.proofs.Stores.{compressed_kept}

@@ -10,18 +10,18 @@
 -- Assumes nothing.
 use mathlib.Core.Path.{◌≡◌, refl, sym, ap, ◌∙◌}
 use mathlib.Core.List.{List, [], ◌∷◌}
-use mathlib.Core.Bool.{Bool, true, false, not, ◌&&◌, ◌||◌, and-false, or-true}
-use Prim.Native.Nat.{ℕ, ◌<◌, ◌≤◌}
+use mathlib.Core.Bool.{true, false, not, and-false, or-true}
+use Prim.Native.Nat.{ℕ, ◌<◌}
 use native.Mathlib.Omega.{arith}
 use lib.ListN.{length, get_or, set, length-set}
 use lib.Seq.{get_or-set_same, get_or-set_other}
 use lib.Dec.{eqb}
 use borrow.Author.Tests.{eq-eqb, ne_eqb, not-false, not-true, eqb-true, eqb-false}
 use Rattle.laws.specs.Choice.{pick}
-use Rattle.laws.proofs.Choice.{yes, no, by_test, by_eq, and_both}
+use Rattle.laws.proofs.Choice.{yes, no, by_test, and_both}
 use Rattle.unionfind.specs.Codes.{number, is_var}
 use Rattle.unionfind.specs.Cells.{capacity, is_link, trail, found, set_all, compressed, among, Chain, stop, step, LoopFree, Kept}
-use Rattle.unionfind.proofs.Chains.{not_both, along, head_among, frame, is_trail, Linked, linked, ended, link_step}
+use Rattle.unionfind.proofs.Chains.{not_both, along, head_among, frame, is_trail, linked, ended, link_step}
 
 -- ---- links
 

@@ -7,7 +7,7 @@ use Rattle.laws.specs.Choice.{pick}
 use Rattle.unionfind.specs.Codes.{is_var}
 use Rattle.unionfind.specs.Cells.{is_link, trail_in, trail, found, compressed}
 use Rattle.unionfind.specs.Answers.{full, unknown, closes, set_answer, fresh_answer}
-use Rattle.unionfind.specs.declared.codes.Kind.TheVariants.{Var, IntVar, FloatVar}
+use Rattle.unionfind.specs.declared.codes.Kind.TheVariants.{IntVar, FloatVar}
 use Rattle.unionfind.specs.declared.answer.Answer.TheVariants.{Done}
 use Rattle.unionfind.specs.declared.answer.Made.TheVariants.{Code}
 

@@ -3,12 +3,12 @@
 use Prim.Native.Nat.{ℕ}
 use mathlib.Core.Path.{◌≡◌, refl, sym, ap, ◌∙◌}
 use mathlib.Core.Bool.{Bool, true, false}
-use mathlib.Core.List.{List, [], ◌∷◌, ◌++◌}
+use mathlib.Core.List.{List}
 use lib.ListN.{length, length-set}
 use Rattle.laws.proofs.Choice.{yes, no}
 use Rattle.unionfind.specs.Cells.{Kept, Knows, Live}
-use Rattle.unify.proofs.Resolving.{resolved_same, kept_both}
-use Rattle.words.specs.Notes.{nodes, code_noted, is_seen}
+use Rattle.unify.proofs.Resolving.{resolved_same}
+use Rattle.words.specs.Notes.{code_noted, is_seen}
 use Rattle.words.specs.Words.{encode, put_word, word_of, Worded, NodeWritten}
 
 -- ---- one word

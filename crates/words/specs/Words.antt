@@ -1,11 +1,11 @@
 -- The words of a report: "its word records that type as resolved at the end", and "a root's report writes 4 bytes at 4·id for each node of
 -- that root; .. big-endian; all else stays."
-use Rattle.std.specs.Prelude.{ℕ, ◌+◌, ◌-◌, ◌*◌, ◌/◌, ◌%◌, ◌^◌, ◌≤◌, ◌≡◌, Bool, List, [], ◌∷◌, length, set}
+use Rattle.std.specs.Prelude.{ℕ, ◌+◌, ◌-◌, ◌*◌, ◌/◌, ◌%◌, ◌^◌, ◌≡◌, Bool, List, [], ◌∷◌, set}
 use Rattle.laws.specs.Choice.{pick}
 use Rattle.laws.specs.Bounded.{get}
 use Rattle.laws.specs.Lists.{bit, gather}
 use Rattle.unionfind.specs.Codes.{tag, number}
-use Rattle.unionfind.specs.Cells.{Kept, Knows, Live}
+use Rattle.unionfind.specs.Cells.{Kept, Live}
 use Rattle.unify.specs.Unify.{resolve_of, settled}
 use Rattle.words.specs.Notes.{nodes, code_noted, call_noted, diverges_noted, is_seen}
 

@@ -1,5 +1,4 @@
-use Rattle.pack.specs.Lists.{list_item}
-use Rattle.members.specs.Marks.{is_marked, any_marked}
+use Rattle.members.specs.Marks.{any_marked}
 use Rattle.members.proofs.Counting.{any_begins, any_goes, any_stops, any_ends}
 use native.Mathlib.Omega.{arith}
 use Rattle.members.proofs.marks.any_marked.Goals as goal

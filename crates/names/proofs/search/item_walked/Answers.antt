@@ -2,7 +2,6 @@ use mathlib.Core.Path.{refl, ap}
 use mathlib.Core.Bool.{not}
 use Rattle.laws.proofs.First.{goes, stops, ends}
 use Rattle.laws.proofs.Told.{eq, ne}
-use Rattle.pack.specs.Lists.{list_item}
 use Rattle.names.specs.Index.{next_item}
 use native.Mathlib.Omega.{arith}
 use Rattle.names.proofs.search.item_walked.Goals as goal

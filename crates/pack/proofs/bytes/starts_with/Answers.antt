@@ -1,6 +1,6 @@
 use Rattle.laws.proofs.First.{goes, stops, ends}
 use Rattle.laws.proofs.Told.{eq, ne}
-use Rattle.pack.specs.Read.{byte_at, starts_with}
+use Rattle.pack.specs.Read.{starts_with}
 use mathlib.Core.Path.{refl}
 use native.Mathlib.Omega.{arith}
 use Rattle.pack.proofs.bytes.starts_with.Goals as goal

@@ -1,4 +1,3 @@
-use Rattle.members.specs.Lookup.{name_at}
 use Rattle.records.specs.Record.{duplicate_fields}
 use Rattle.members.proofs.Counting.{count_none, count_more, count_room, count_all, both_told}
 use native.Mathlib.Omega.{arith}

@@ -1,6 +1,5 @@
 use mathlib.Core.Path.{ap}
 use mathlib.Core.Bool.{not}
-use Rattle.members.specs.Lookup.{name_at}
 use Rattle.records.specs.Record.{strangers}
 use Rattle.members.proofs.Counting.{count_none, count_more, count_room, count_all}
 use native.Mathlib.Omega.{arith}

@@ -1,6 +1,6 @@
 use mathlib.Core.Path.{sym, ap, ◌∙◌}
 use native.Mathlib.Omega.{arith}
-use Rattle.report.specs.Kids.{kid_in, kid_at}
+use Rattle.report.specs.Kids.{kid_in}
 use Rattle.report.proofs.Writing.{tree_starts, tree_absent, tree_kid, tree_ends, tree_long, tree_written, tree_none, written_length, wrote_long}
 use Rattle.report.proofs.tree.+tree.Goals as goal
 

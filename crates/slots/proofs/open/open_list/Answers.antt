@@ -1,4 +1,3 @@
-use Rattle.pack.specs.Lists.{list_item}
 use Rattle.slots.specs.Slots.{open_list}
 use Rattle.slots.proofs.Codes.{code_small}
 use Rattle.slots.proofs.Steps.{open_starts, open_goes, open_stops, open_ends}

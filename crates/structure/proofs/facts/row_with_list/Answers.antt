@@ -1,6 +1,5 @@
 use mathlib.Core.Path.{sym, ◌∙◌}
 use native.Mathlib.Omega.{arith}
-use mathlib.Core.Bool.{false}
 use Rattle.laws.proofs.Choice.{by_eq}
 use Rattle.structure.proofs.facts.row_with_list.Goals as goal
 

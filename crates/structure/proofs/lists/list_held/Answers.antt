@@ -2,7 +2,6 @@ use mathlib.Core.Path.{refl, ap}
 use mathlib.Core.Bool.{not}
 use Rattle.laws.proofs.First.{goes, stops, ends}
 use Rattle.laws.proofs.Told.{eq, ne}
-use Rattle.structure.specs.Lists.{part_at}
 use Rattle.structure.specs.Table.{held_in}
 use native.Mathlib.Omega.{arith}
 use Rattle.structure.proofs.lists.list_held.Goals as goal
