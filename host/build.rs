@@ -1,21 +1,31 @@
 //! Finds or makes the static library of the proved functions.
 //!
-//! RULEPACK_LIB names a folder that holds libentries.a. Where it is not given, `rt staticlib entries` is asked for it:
+//! RULEPACK_LIB names a folder that holds libentries.a. Where it is not given, `bin/staticlib entries` is asked for it:
 //! it proves what has changed since the last time and writes target/staticlib of the checkout.
 
 use std::path::{Path, PathBuf};
 use std::process::Command;
 
-fn made(repository: &Path) -> PathBuf {
-    println!("cargo::rerun-if-changed={}", repository.join("crates").display());
+/// Has the library made again where the text of a crate has changed. What a check leaves beside the text, in out/, doesn't count.
+fn watch(repository: &Path) {
     println!("cargo::rerun-if-changed={}", repository.join("crates.txt").display());
-    let status = Command::new("rt").args(["staticlib", "entries"]).current_dir(repository).status();
+    for each in std::fs::read_dir(repository.join("crates")).expect("crates") {
+        let each = each.expect("crates").path();
+        for part in ["src", "specs", "proofs"].map(|part| each.join(part)).iter().filter(|part| part.exists()) {
+            println!("cargo::rerun-if-changed={}", part.display());
+        }
+    }
+}
+
+fn made(repository: &Path) -> PathBuf {
+    watch(repository);
+    let status = Command::new(repository.join("bin/staticlib")).arg("entries").status();
     match status {
         Ok(status) if status.success() => repository.join("target/staticlib"),
-        Ok(status) => panic!("`rt staticlib entries` failed: {status}"),
-        Err(e) => panic!(
-            "`rt staticlib entries` could not be run ({e}): put the toolchain's rt on the PATH, or set RULEPACK_LIB to a folder with libentries.a"
+        Ok(status) => panic!(
+            "`bin/staticlib entries` failed ({status}): put the toolchain's rt on the PATH, or set RULEPACK_LIB to a folder with libentries.a"
         ),
+        Err(e) => panic!("`bin/staticlib entries` could not be run: {e}"),
     }
 }
 

@@ -87,8 +87,8 @@ fn link_cells() {
     println!("cargo::rerun-if-changed={folder}/libcells_abi.a");
     if std::env::var_os("RULEPACK_LIB").is_none() {
         let repository = Path::new(env!("CARGO_MANIFEST_DIR")).join("../..");
-        let status = Command::new("rt").args(["staticlib", "cells_abi"]).current_dir(repository).status();
-        assert!(status.is_ok_and(|s| s.success()), "`rt staticlib cells_abi` failed");
+        let status = Command::new(repository.join("bin/staticlib")).arg("cells_abi").status();
+        assert!(status.is_ok_and(|s| s.success()), "`bin/staticlib cells_abi` failed");
     }
     println!("cargo::rustc-link-search=native={folder}");
     println!("cargo::rustc-link-lib=static=cells_abi");

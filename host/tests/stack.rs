@@ -55,11 +55,11 @@ fn records_nested_61_deep() {
     asked("61 records nested", model::deepest::nested_records(61).bytes());
 }
 
-/// The program, which reads a pack into its own stack, in a process that has 1 MiB. `rt check check_pack` makes it.
+/// The program, which reads a pack into its own stack, in a process that has 1 MiB. `bin/check-pack` makes it.
 #[test]
 fn the_program() {
-    let program = concat!(env!("CARGO_MANIFEST_DIR"), "/../target/bin/check_pack");
-    assert!(std::path::Path::new(program).exists(), "{program} is not there: `rt check check_pack` makes it");
+    let program = concat!(env!("CARGO_MANIFEST_DIR"), "/../crates/check_pack/out/check_pack");
+    assert!(std::path::Path::new(program).exists(), "{program} is not there: `bin/check-pack` makes it");
     for (name, pack) in model::deepest::packs() {
         let wanted = match model::check_types(&pack) {
             Ok(()) => "types ok".to_string(),

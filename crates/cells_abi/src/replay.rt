@@ -46,8 +46,7 @@ fn step(
 }
 
 // Runs so many operations, three numbers each; each leaves two numbers among the answers, if there is room.
-#[unsafe(no_mangle)]
-pub extern "C" fn cells_replay(script: &[u32], ops: u32, answers: &mut [u32])
+pub fn cells_replay(script: &[u32], ops: u32, answers: &mut [u32])
     ensures { answers.new ≡ replay_of script.now ops answers.old }
 {
     let u = UnionFind::empty();

@@ -1,5 +1,5 @@
-// The functions that the Rust host calls, with plain numbers and byte slices. The answer of each is a refusal's number, or 0 for a report;
-// place and detail are written always, 0 on a report.
+// The functions that the Rust host calls, by way of `entries_c`, with plain numbers and byte slices. The answer of each is a refusal's
+// number, or 0 for a report; place and detail are written always, 0 on a report.
 #![tactic(auto)]
 
 mod answers;

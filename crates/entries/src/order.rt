@@ -1,7 +1,7 @@
 // The order of values for the host: module 5 on a pack that is well-formed, in an area with room for it.
 ghost use Rattle.std.specs.Prelude.{◌≡◌};
 ghost use Rattle.value_cycle.specs.Order.{outcome};
-ghost use Rattle.entries.specs.Answers.{told, result};
+ghost use Rattle.entries.specs.Answers.{told, result as with_area};
 ghost use Rattle.entries.specs.Order.{order_answer, order_of};
 
 use crate::answers::{refuse, report};
@@ -10,7 +10,7 @@ use pack::Reading;
 use value_cycle::{Order, find_compilation_order};
 
 fn order_values(pack: &[u8], area: &mut [u8]) -> Order
-    ensures* { λ r. ⌜ outcome r area.new ≡ order_answer pack.now area.old ⌝ }
+    ensures { outcome result area.new ≡ order_answer pack.now area.old }
 {
     let room = area.len();
     let ready = ready_to_order(pack, room);
@@ -20,14 +20,8 @@ fn order_values(pack: &[u8], area: &mut [u8]) -> Order
     }
 }
 
-#[unsafe(no_mangle)]
-pub extern "C" fn rulepack_order(
-    pack: &[u8],
-    area: &mut [u8],
-    place: &mut u32,
-    detail: &mut u64,
-) -> u32
-    ensures* { λ r. ⌜ result (told r place.new detail.new) area.new ≡ order_of pack.now area.old ⌝ }
+pub fn rulepack_order(pack: &[u8], area: &mut [u8], place: &mut u32, detail: &mut u64) -> u32
+    ensures { with_area (told result place.new detail.new) area.new ≡ order_of pack.now area.old }
 {
     let answer = order_values(pack, area);
     match answer {

@@ -2,7 +2,7 @@
 ghost use Rattle.std.specs.Prelude.{◌≡◌, ◌*◌, ◌<◌, ◌≤◌, length};
 ghost use Rattle.pack.specs.declared.answer.Reading.TheVariants.{Pack};
 ghost use Rattle.formed.specs.Formed.{formed_of};
-ghost use Rattle.entries.specs.Answers.{told, result};
+ghost use Rattle.entries.specs.Answers.{told, result as with_area};
 ghost use Rattle.entries.specs.Root.{checked, checked_in, root_checked, root_of};
 
 use crate::answers::{refuse, report};
@@ -17,7 +17,7 @@ use words::Notes;
 // A root of a well-formed pack, its rows numbered by structure and its names put in order first.
 fn check_numbered(pack: &[u8], c: Counts, root: u32, area: &mut [u8]) -> Checked
     requires { (formed_of pack.now ≡ Pack c) × (root < c.roots) × (4 * c.expressions ≤ length area.old) }
-    ensures* { λ r. ⌜ checked r area.new ≡ checked_in pack.now c root area.old ⌝ }
+    ensures { checked result area.new ≡ checked_in pack.now c root area.old }
 {
     let table = number_rows(pack, c);
     let same = table.same;
@@ -40,7 +40,7 @@ fn check_numbered(pack: &[u8], c: Counts, root: u32, area: &mut [u8]) -> Checked
 }
 
 fn check_one(pack: &[u8], root: u64, area: &mut [u8]) -> Checked
-    ensures* { λ r. ⌜ checked r area.new ≡ root_checked pack.now root area.old ⌝ }
+    ensures { checked result area.new ≡ root_checked pack.now root area.old }
 {
     let room = area.len();
     let ready = ready_to_check(pack, root, room);
@@ -50,15 +50,14 @@ fn check_one(pack: &[u8], root: u64, area: &mut [u8]) -> Checked
     }
 }
 
-#[unsafe(no_mangle)]
-pub extern "C" fn rulepack_root(
+pub fn rulepack_root(
     pack: &[u8],
     root: u64,
     area: &mut [u8],
     place: &mut u32,
     detail: &mut u64,
 ) -> u32
-    ensures* { λ r. ⌜ result (told r place.new detail.new) area.new ≡ root_of pack.now root area.old ⌝ }
+    ensures { with_area (told result place.new detail.new) area.new ≡ root_of pack.now root area.old }
 {
     let answer = check_one(pack, root, area);
     match answer {

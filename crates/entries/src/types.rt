@@ -19,8 +19,7 @@ pub fn check_types(pack: &[u8]) -> Reading
     }
 }
 
-#[unsafe(no_mangle)]
-pub extern "C" fn rulepack_types(pack: &[u8], place: &mut u32, detail: &mut u64) -> u32
+pub fn rulepack_types(pack: &[u8], place: &mut u32, detail: &mut u64) -> u32
     ensures { told result place.new detail.new ≡ types_of pack.now }
 {
     let answer = check_types(pack);

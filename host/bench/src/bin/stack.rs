@@ -20,7 +20,7 @@ const MOST: usize = 8192;
 /// The program that checks a whole pack: that which CHECK_PACK names, or the one of this checkout.
 fn program() -> PathBuf {
     std::env::var_os("CHECK_PACK").map_or_else(
-        || PathBuf::from(concat!(env!("CARGO_MANIFEST_DIR"), "/../../target/bin/check_pack")),
+        || PathBuf::from(concat!(env!("CARGO_MANIFEST_DIR"), "/../../crates/check_pack/out/check_pack")),
         PathBuf::from,
     )
 }

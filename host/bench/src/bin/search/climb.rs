@@ -207,10 +207,7 @@ pub fn search(seed: u64, minutes: usize, part: &str) {
     println!("|---|---|---|---|---|---|---|");
     let there = program_path().exists();
     if !there {
-        eprintln!(
-            "{} is not there: `rt check check_pack` makes it; families for it are left out",
-            program_path().display()
-        );
+        eprintln!("{} is not there: `bin/check-pack` makes it; families for it are left out", program_path().display());
     }
     let all = families::all();
     for (number, family) in all.iter().enumerate().filter(|(_, family)| family.name.contains(part)) {

@@ -173,7 +173,7 @@ pub fn is_of_making(number: u32) -> bool {
 /// The program that checks a whole pack: that which CHECK_PACK names, or the one of this checkout.
 pub fn program_path() -> PathBuf {
     std::env::var_os("CHECK_PACK").map_or_else(
-        || PathBuf::from(concat!(env!("CARGO_MANIFEST_DIR"), "/../../target/bin/check_pack")),
+        || PathBuf::from(concat!(env!("CARGO_MANIFEST_DIR"), "/../../crates/check_pack/out/check_pack")),
         PathBuf::from,
     )
 }
