@@ -12,14 +12,16 @@ mod whole;
 
 use crate::report::say_verdict;
 use crate::whole::{AREA, check_whole};
+use std::io;
+use stdio::read_full;
 
 // A byte more than the longest pack has, so that a longer input is seen to be longer: it is refused as 2, 3 or 4.
 const ROOM: usize = 65537;
 
-fn main() {
+fn main(rt: HostRuntime) -> io::Result<()> {
     let mut room = [0u8; ROOM];
-    let n = io::read_full(libc::STDIN_FILENO, &mut room);
+    let n = read_full(&mut rt.stdin(), &mut room)?;
     let mut area = [0u8; AREA];
     let verdict = check_whole(&room[..n], &mut area);
-    say_verdict(verdict, &area);
+    say_verdict(&rt, verdict, &area)
 }

@@ -18,16 +18,24 @@ mod run;
 
 use crate::report::too_long;
 use crate::run::run_all;
+use std::io;
+use std::io::Read;
+use stdio::read_full;
 
 // More than the digits take.
 const MAX_TEXT: usize = 524288;
 
-fn main() {
-    let mut text = [0u8; MAX_TEXT];
-    let n = io::read_full(libc::STDIN_FILENO, &mut text);
+// Reads the text into that room, and runs its cases.
+fn run_input(rt: &impl Print, input: &mut impl Read, text: &mut [u8; MAX_TEXT]) -> io::Result<()> {
+    let n = read_full(input, text)?;
     if n < MAX_TEXT {
-        run_all(&text[..n]);
+        run_all(rt, &text[..n])
     } else {
-        too_long();
+        too_long(rt)
     }
+}
+
+fn main(rt: HostRuntime) -> io::Result<()> {
+    let mut text = [0u8; MAX_TEXT];
+    run_input(&rt, &mut rt.stdin(), &mut text)
 }

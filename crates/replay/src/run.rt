@@ -5,6 +5,7 @@ use crate::asks::is_recorded;
 use crate::cases::{HEAD, case_of, head_of, word_at};
 use crate::digits::decode;
 use crate::report::{cut, differs, sums};
+use std::io;
 
 // More than the bytes of all cases.
 const ROOM: usize = 262144;
@@ -42,16 +43,16 @@ fn is_right(bytes: &[u8]) -> bool {
 }
 
 // Runs the n-th case; how many differ with it.
-fn judged(bytes: &[u8], n: u64, differ: u64) -> u64 {
+fn judged(rt: &impl Print, bytes: &[u8], n: u64, differ: u64) -> io::Result<u64> {
     if is_right(bytes) {
-        return differ;
+        return Ok(differ);
     }
-    differs(n);
-    one_more(differ)
+    differs(rt, n)?;
+    Ok(one_more(differ))
 }
 
 // The cases from the first on.
-fn run_in(bytes: &[u8]) {
+fn run_in(rt: &impl Print, bytes: &[u8]) -> io::Result<()> {
     let mut cases = 0;
     let mut differ = 0;
     let mut at = 0;
@@ -59,20 +60,21 @@ fn run_in(bytes: &[u8]) {
         let rest = &bytes[at..];
         let len = case_len(rest);
         if len == 0 {
-            cut();
-            return;
+            return cut(rt);
         }
         cases = one_more(cases);
-        differ = judged(&rest[0..len], cases, differ);
+        differ = judged(rt, &rest[0..len], cases, differ)?;
         at += len;
     }
-    sums(cases, differ);
+    sums(rt, cases, differ)
 }
 
-pub(crate) fn run_all(text: &[u8]) {
+pub(crate) fn run_all(rt: &impl Print, text: &[u8]) -> io::Result<()> {
     let mut bytes = [0u8; ROOM];
     let n = decode(text, &mut bytes);
     if n <= ROOM {
-        run_in(&bytes[0..n]);
+        run_in(rt, &bytes[0..n])
+    } else {
+        Ok(())
     }
 }

@@ -5,9 +5,9 @@ use crate::answers::{Answer, is_same, numbers_of};
 use crate::report::{area_differs, differs};
 use crate::rising::put_row;
 use crate::state::{ROOT, Run, one_differs};
-use check::same;
 use entries::{rulepack_order, rulepack_root, rulepack_types};
 use formed::formed;
+use std::io;
 
 // The bytes of the result area: more than the 4 for each expression that the largest root takes.
 pub const AREA: usize = 16400;
@@ -76,47 +76,76 @@ fn came_in(pack: &[u8], area: &mut [u8], run: Run) -> Answer {
 }
 
 // Holds the answer to what is wanted.
-fn hold(text: &[u8], at: usize, wanted: Answer, came: Answer, run: Run) -> Run {
+fn hold(
+    rt: &impl Print,
+    text: &[u8],
+    at: usize,
+    wanted: Answer,
+    came: Answer,
+    run: Run,
+) -> io::Result<Run> {
     if is_same(came, wanted) {
-        return run;
+        return Ok(run);
     }
-    differs(text, at, wanted, came);
-    one_differs(run)
+    differs(rt, text, at, wanted, came)?;
+    Ok(one_differs(run))
 }
 
-pub(crate) fn hold_formed(text: &[u8], at: usize, pack: &[u8], wanted: Answer, run: Run) -> Run {
-    hold(text, at, wanted, numbers_of(formed(pack)), run)
+pub(crate) fn hold_formed(
+    rt: &impl Print,
+    text: &[u8],
+    at: usize,
+    pack: &[u8],
+    wanted: Answer,
+    run: Run,
+) -> io::Result<Run> {
+    hold(rt, text, at, wanted, numbers_of(formed(pack)), run)
 }
 
-pub(crate) fn hold_types(text: &[u8], at: usize, pack: &[u8], wanted: Answer, run: Run) -> Run {
-    hold(text, at, wanted, types_of(pack), run)
+pub(crate) fn hold_types(
+    rt: &impl Print,
+    text: &[u8],
+    at: usize,
+    pack: &[u8],
+    wanted: Answer,
+    run: Run,
+) -> io::Result<Run> {
+    hold(rt, text, at, wanted, types_of(pack), run)
 }
 
 // Holds the area after a right answer to what it has to be.
-fn hold_area(text: &[u8], at: usize, wanted: &[u8], came: &[u8], run: Run) -> Run {
-    if same(came, wanted) {
-        return run;
+fn hold_area(
+    rt: &impl Print,
+    text: &[u8],
+    at: usize,
+    wanted: &[u8],
+    came: &[u8],
+    run: Run,
+) -> io::Result<Run> {
+    if came == wanted {
+        return Ok(run);
     }
-    area_differs(text, at);
-    one_differs(run)
+    area_differs(rt, text, at)?;
+    Ok(one_differs(run))
 }
 
 // Both, of a root or an order. The area has to begin with what is listed, and all else of it stays.
 pub(crate) fn hold_written(
+    rt: &impl Print,
     text: &[u8],
     at: usize,
     pack: &[u8],
     listing: &[u8],
     wanted: Answer,
     run: Run,
-) -> Run {
+) -> io::Result<Run> {
     let mut after = [FILL; AREA];
     put_row(listing, run.listed, &mut after, 0);
     let mut area = [FILL; AREA];
     let came = came_in(pack, &mut area, run);
     if is_same(came, wanted) {
-        hold_area(text, at, &after, &area, run)
+        hold_area(rt, text, at, &after, &area, run)
     } else {
-        hold(text, at, wanted, came, run)
+        hold(rt, text, at, wanted, came, run)
     }
 }

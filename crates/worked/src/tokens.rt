@@ -1,8 +1,6 @@
 // The words of the text, and what stands in a word: a decimal number, or bytes in hexadecimal digits.
 ghost use Rattle.std.specs.Prelude.{◌<◌, ◌≤◌, length};
 
-use check::same;
-
 // What a word says comes, or that it is none of these.
 #[derive(Clone, Copy)]
 pub enum Word {
@@ -142,36 +140,24 @@ pub(crate) fn is_hex(word: &[u8]) -> bool {
 }
 
 pub(crate) fn meaning(word: &[u8]) -> Word {
-    if same(word, b"group") {
-        return Word::Group;
+    match word {
+        b"group" => Word::Group,
+        b"case" => Word::Case,
+        b"area" => Word::Area,
+        b"formed" => Word::Formed,
+        _ => entry(word),
     }
-    if same(word, b"case") {
-        return Word::Case;
-    }
-    if same(word, b"area") {
-        return Word::Area;
-    }
-    if same(word, b"formed") {
-        return Word::Formed;
-    }
-    entry(word)
 }
 
 // The words that ask an entry, or say how.
 fn entry(word: &[u8]) -> Word {
-    if same(word, b"room") {
-        return Word::Room;
+    match word {
+        b"room" => Word::Room,
+        b"types" => Word::Types,
+        b"root" => Word::Root,
+        b"order" => Word::Order,
+        _ => Word::Other,
     }
-    if same(word, b"types") {
-        return Word::Types;
-    }
-    if same(word, b"root") {
-        return Word::Root;
-    }
-    if same(word, b"order") {
-        return Word::Order;
-    }
-    Word::Other
 }
 
 // The number of the line in which a place of the text stands.

@@ -18,17 +18,18 @@ use crate::refusals::{full, loops, own, unknown};
 use crate::report::{group, sums};
 use crate::tables::{kinds, links, numbers, selves};
 use crate::tally::begun;
+use std::io;
 
-fn main() {
+fn main(rt: HostRuntime) -> io::Result<()> {
     let mut all = begun();
-    all = group(b"chain", chain(), all);
-    all = group(b"full", full(), all);
-    all = group(b"unknown", unknown(), all);
-    all = group(b"loops", loops(), all);
-    all = group(b"own", own(), all);
-    all = group(b"kinds", kinds(), all);
-    all = group(b"numbers", numbers(), all);
-    all = group(b"selves", selves(), all);
-    all = group(b"links", links(), all);
-    sums(all);
+    all = group(&rt, b"chain", chain(), all)?;
+    all = group(&rt, b"full", full(), all)?;
+    all = group(&rt, b"unknown", unknown(), all)?;
+    all = group(&rt, b"loops", loops(), all)?;
+    all = group(&rt, b"own", own(), all)?;
+    all = group(&rt, b"kinds", kinds(), all)?;
+    all = group(&rt, b"numbers", numbers(), all)?;
+    all = group(&rt, b"selves", selves(), all)?;
+    all = group(&rt, b"links", links(), all)?;
+    sums(&rt, all)
 }
