@@ -7,10 +7,10 @@
 // A refusal prints `refused NUMBER PLACE DETAIL`, and nothing comes after it.
 #![tactic(auto)]
 
-mod report;
+mod lines;
 mod whole;
 
-use crate::report::say_verdict;
+use crate::lines::say_verdict;
 use crate::whole::{AREA, check_whole};
 use std::io;
 use stdio::read_full;

@@ -13,10 +13,10 @@
 mod asks;
 mod cases;
 mod digits;
-mod report;
+mod lines;
 mod run;
 
-use crate::report::too_long;
+use crate::lines::too_long;
 use crate::run::run_all;
 use std::io;
 use std::io::Read;

@@ -4,7 +4,7 @@ ghost use Rattle.std.specs.Prelude.{◌<◌, ◌≤◌, length};
 use crate::asks::is_recorded;
 use crate::cases::{HEAD, case_of, head_of, word_at};
 use crate::digits::decode;
-use crate::report::{cut, differs, sums};
+use crate::lines::{cut, differs, sums};
 use std::io;
 
 // More than the bytes of all cases.

@@ -2,7 +2,7 @@
 ghost use Rattle.std.specs.Prelude.{◌≤◌};
 
 use crate::answers::{Answer, is_same, numbers_of};
-use crate::report::{area_differs, differs};
+use crate::lines::{area_differs, differs};
 use crate::rising::put_row;
 use crate::state::{ROOT, Run, one_differs};
 use entries::{rulepack_order, rulepack_root, rulepack_types};

@@ -23,13 +23,13 @@
 mod answers;
 mod asks;
 mod build;
-mod report;
+mod lines;
 mod rising;
 mod run;
 mod state;
 mod tokens;
 
-use crate::report::too_long;
+use crate::lines::too_long;
 use crate::run::run_all;
 use std::io;
 use std::io::Read;

@@ -4,7 +4,7 @@ ghost use Rattle.std.specs.Prelude.{◌≤◌, length};
 use crate::answers::Answer;
 use crate::asks::{AREA, hold_formed, hold_types, hold_written};
 use crate::build::{Grown, put_word};
-use crate::report::{group_sums, not_understood, nothing_asked, sums};
+use crate::lines::{group_sums, not_understood, nothing_asked, sums};
 use crate::state::{
     DETAIL, FORMED, NAME, NUMBER, ORDER, PLACE, ROOM_SIZE, ROOT_NUMBER, Run, TYPES, WORD, asking,
     asking_root, begun, named, one_asked, one_differs, with_area, with_listed, with_next,
