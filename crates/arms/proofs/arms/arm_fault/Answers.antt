@@ -1,3 +1,4 @@
+-- `arm_fault`: `_`, then 26, then its payload.
 use mathlib.Core.Path.{refl}
 use Rattle.laws.proofs.Choice.{yes, no}
 use Rattle.laws.proofs.Told.{eq, ne}
@@ -5,7 +6,6 @@ use Rattle.arms.specs.Match.{arm_fault}
 use Rattle.members.proofs.Finding.{finds, finds_none, finds_word}
 use Rattle.arms.proofs.arms.arm_fault.Goals as goal
 
--- `arm_fault`: `_`, then 26, then its payload.
 pub returns-then-name-eq-WILD : goal.returns-then-name-eq-WILD
 unfolding arm_fault
 returns-then-name-eq-WILD c = yes _ _ _ (eq refl refl c.if-name-eq-WILD.true) refl

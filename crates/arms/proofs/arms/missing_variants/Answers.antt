@@ -1,8 +1,8 @@
+-- `missing_variants`: none where an arm is of `_`, else as counted.
 use mathlib.Core.Path.{sym, ◌∙◌}
 use Rattle.arms.proofs.Covering.{wild_told}
 use Rattle.arms.proofs.arms.missing_variants.Goals as goal
 
--- `missing_variants`: none where an arm is of `_`, else as counted.
 pub returns-then-has_free : goal.returns-then-has_free
 returns-then-has_free c = wild_told _ _ _ _ c.has_free.ensures c.if-has_free.true
 

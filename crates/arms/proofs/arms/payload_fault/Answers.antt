@@ -1,9 +1,9 @@
+-- `payload_fault`: no payload, or one beside the variant's fields.
 use mathlib.Core.Path.{refl}
 use Rattle.arms.specs.Match.{payload_fault}
 use Rattle.members.proofs.Counting.{stored_none, stored_some}
 use Rattle.arms.proofs.arms.payload_fault.Goals as goal
 
--- `payload_fault`: no payload, or one beside the variant's fields.
 pub returns-then-payload-eq0 : goal.returns-then-payload-eq0
 unfolding payload_fault
 returns-then-payload-eq0 c = stored_none _ _ _ refl c.if-payload-eq0.true (rw c.list_len-n.ensures.same at c.unless.ensures)

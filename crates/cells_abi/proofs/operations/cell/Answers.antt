@@ -1,8 +1,8 @@
+-- A variable in use has a cell; another is 38.
 use mathlib.Core.Path.{refl}
 use Rattle.cells_abi.proofs.Stepping.{cell_step_lem, unknown_cell}
 use Rattle.cells_abi.proofs.operations.cell.Goals as goal
 
--- A variable in use has a cell; another is 38.
 pub returns-then-v-n : goal.returns-then-v-n
 returns-then-v-n c = cell_step_lem c.requires _ c.if-v-n.true refl
 

@@ -1,8 +1,8 @@
+-- A variable in use is found; another is 38.
 use Rattle.cells_abi.proofs.Stepping.{found_step, unknown_find}
 use native.Mathlib.Omega.{arith}
 use Rattle.cells_abi.proofs.operations.look.Goals as goal
 
--- A variable in use is found; another is 38.
 pub find-x-requires : goal.find-x-requires
 find-x-requires c = (omega (arith, c.requires.room, c.if-v-n.true), c.requires.loopfree)
 

@@ -1,7 +1,7 @@
+-- A code was made, or there was no room.
 use Rattle.cells_abi.proofs.Stepping.{made_code, made_none}
 use Rattle.cells_abi.proofs.operations.make.Goals as goal
 
--- A code was made, or there was no room.
 pub returns-in-Code : goal.returns-in-Code
 returns-in-Code c = made_code c.fresh.ensures c.in-Code.is
 

@@ -1,9 +1,9 @@
+-- Each number's operation, and set for all others.
 use Rattle.laws.specs.Choice.{by_kind}
 use Rattle.cells_abi.specs.Script.{operation_of}
 use Rattle.cells_abi.proofs.Stepping.{past_operations}
 use Rattle.cells_abi.proofs.operations.operate.Goals as goal
 
--- Each number's operation, and set for all others.
 pub returns-in-0 : goal.returns-in-0
 unfolding operation_of by_kind
 returns-in-0 c = rw c.in-0.is c.make.ensures

@@ -1,8 +1,8 @@
+-- A variable in use is found; another is 38.
 use Rattle.cells_abi.proofs.Stepping.{ref_step_lem, unknown_ref}
 use native.Mathlib.Omega.{arith}
 use Rattle.cells_abi.proofs.operations.peek.Goals as goal
 
--- A variable in use is found; another is 38.
 pub find_ref-x-requires : goal.find_ref-x-requires
 find_ref-x-requires c = (omega (arith, c.requires.room, c.if-v-n.true), c.requires.loopfree)
 

@@ -1,7 +1,7 @@
+-- The set was done, or refused.
 use Rattle.cells_abi.proofs.Stepping.{set_done, set_refused}
 use Rattle.cells_abi.proofs.operations.store.Goals as goal
 
--- The set was done, or refused.
 pub returns-in-Done : goal.returns-in-Done
 returns-in-Done c = set_done c.requires c.set.ensures c.in-Done.is
 

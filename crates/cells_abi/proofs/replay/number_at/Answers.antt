@@ -1,10 +1,10 @@
+-- Past the end it is 0.
 use mathlib.Core.Path.{sym}
 use Rattle.cells_abi.specs.Script.{number_at}
 use Rattle.cells_abi.proofs.Replaying.{number_past}
 use borrow.Author.Rules.{rules}
 use Rattle.cells_abi.proofs.replay.number_at.Goals as goal
 
--- Past the end it is 0.
 pub returns-then-i-script : goal.returns-then-i-script
 unfolding number_at
 returns-then-i-script c = search rules

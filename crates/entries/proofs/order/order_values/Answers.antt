@@ -1,10 +1,10 @@
+-- Module 5 is asked of a well-formed pack and an area with room alone.
 use mathlib.Core.Path.{sym, ap, ◌∙◌}
 use Rattle.value_cycle.proofs.WellFormed.{orders}
 use Rattle.entries.specs.Order.{order_answer, ordered}
 use Rattle.entries.proofs.ReadyLaws.{order_ready}
 use Rattle.entries.proofs.order.order_values.Goals as goal
 
--- Module 5 is asked of a well-formed pack and an area with room alone.
 pub find_compilation_order-requires : goal.find_compilation_order-requires
 find_compilation_order-requires c = 
     let ready = order_ready _ _ _ (sym c.ready_to_order-ready.ensures ∙ c.in-Pack.is) in

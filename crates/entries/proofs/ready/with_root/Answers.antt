@@ -1,9 +1,9 @@
+-- The code's tests are the definition's, and each side is what its call ensured.
 use Rattle.laws.proofs.Choice.{yes, no}
 use Rattle.pack.specs.Answer.{needs as answers}
 use borrow.Author.Tests.{lt-ltb, le-ltb}
 use Rattle.entries.proofs.ready.with_root.Goals as goal
 
--- The code's tests are the definition's, and each side is what its call ensured.
 pub returns-then-root-c : goal.returns-then-root-c
 unfolding answers
 returns-then-root-c c = yes _ _ _ (lt-ltb _ _ c.if-root-c.true) c.with_room.ensures

@@ -1,8 +1,8 @@
+-- The rows are numbered, the names put in order, the tables new; then the root is checked.
 use Rattle.entries.proofs.AnswerLaws.{root_both}
 use Rattle.entries.proofs.ReadyLaws.{root_checks, words_few}
 use Rattle.entries.proofs.root.check_numbered.Goals as goal
 
--- The rows are numbered, the names put in order, the tables new; then the root is checked.
 pub fill_names-requires : goal.fill_names-requires
 fill_names-requires c = (c.empty-index.ensures, words_few _ c.requires.0)
 

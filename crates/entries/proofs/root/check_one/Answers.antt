@@ -1,3 +1,4 @@
+-- Module 4 is asked of a well-formed pack, one of its roots and an area with room alone.
 use mathlib.Core.Path.{sym, ap, ◌∙◌}
 use Rattle.formed.proofs.Promises.{well_formed}
 use Rattle.pack.proofs.CountLaws.{limited}
@@ -6,7 +7,6 @@ use Rattle.entries.proofs.ReadyLaws.{root_ready}
 use native.Mathlib.Omega.{arith}
 use Rattle.entries.proofs.root.check_one.Goals as goal
 
--- Module 4 is asked of a well-formed pack, one of its roots and an area with room alone.
 pub overflow_cast-root : goal.overflow_cast-root
 overflow_cast-root c = 
     let ready = root_ready _ _ _ _ (sym c.ready_to_check-ready.ensures ∙ c.in-Pack.is) in

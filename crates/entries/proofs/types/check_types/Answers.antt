@@ -1,3 +1,4 @@
+-- Module 3 is asked of a well-formed pack alone.
 use mathlib.Core.Path.{sym, ap, ◌∙◌}
 use Rattle.laws.proofs.Answers.{follows, stands}
 use Rattle.pack.specs.Answer.{passes}
@@ -6,7 +7,6 @@ use Rattle.entries.specs.Types.{types_answer}
 use Rattle.entries.proofs.ReadyLaws.{types_ready, counts_are}
 use Rattle.entries.proofs.types.check_types.Goals as goal
 
--- Module 3 is asked of a well-formed pack alone.
 pub detect_type_cycles-requires : goal.detect_type_cycles-requires
 detect_type_cycles-requires c = types_ready _ _ (sym c.formed-reading.ensures ∙ c.in-Pack.is)
 

@@ -1,8 +1,8 @@
+-- The numbers of the answer's case.
 use mathlib.Core.Path.{sym, ap, ◌∙◌}
 use Rattle.entries.specs.Answers.{reading_told}
 use Rattle.entries.proofs.types.rulepack_types.Goals as goal
 
--- The numbers of the answer's case.
 pub returns-in-Pack : goal.returns-in-Pack
 returns-in-Pack c = c.report.ensures ∙ ap reading_told (sym c.in-Pack.is ∙ c.check_types-answer.ensures)
 

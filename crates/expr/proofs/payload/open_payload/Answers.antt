@@ -1,3 +1,4 @@
+-- `open_payload`: nothing to open where there is no payload and in an arm for every variant.
 use mathlib.Core.Path.{refl}
 use borrow.Author.Tests.{eq-eqb, ne_eqb}
 use Rattle.laws.proofs.Choice.{yes, no}
@@ -5,7 +6,6 @@ use Rattle.expr.specs.Rules.{payload_opens}
 use Rattle.expr.proofs.Recursions.{opens_none, opens_more}
 use Rattle.expr.proofs.payload.open_payload.Goals as goal
 
--- `open_payload`: nothing to open where there is no payload and in an arm for every variant.
 pub returns-then-payload-eq0 : goal.returns-then-payload-eq0
 unfolding payload_opens
 returns-then-payload-eq0 c = opens_none _ _ _ _ _ _ _ c.if-payload-eq0.true refl

@@ -1,3 +1,4 @@
+-- `check_root`: 35, 34, then the body, and the words of a root that is accepted.
 use mathlib.Core.Path.{refl, ap, ◌∙◌}
 use lib.ListN.{length}
 use Rattle.words.proofs.Promises.{words_length}
@@ -5,7 +6,6 @@ use Rattle.expr.proofs.Kept.{held_after}
 use Rattle.expr.proofs.Roots.{tells_refused, tells_report, at_variable, at_slot, at_body, at_report, ret_coded, root_given}
 use Rattle.expr.proofs.root.check_root.Goals as goal
 
--- `check_root`: 35, 34, then the body, and the words of a root that is accepted.
 pub returns-then-root_marked : goal.returns-then-root_marked
 returns-then-root_marked c = tells_refused c.requires.0 (at_variable c.requires.0 c.root_row-row.ensures c.root_marked.ensures c.if-root_marked.true) refl c.refused_at.ensures c.requires.2.cells c.requires.2.notes
 

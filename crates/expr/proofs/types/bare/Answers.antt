@@ -1,3 +1,4 @@
+-- `bare`: a fresh variable, then unify.
 use Rattle.expr.specs.Rules.{bare_rule}
 use Rattle.expr.proofs.Steps.{typed_as_lem, typed_none}
 use Rattle.expr.proofs.Kept.{ran_keeps, after_type, coded_more}
@@ -5,7 +6,6 @@ use Rattle.expr.proofs.Leaves.{bare_keeps}
 use Rattle.expr.proofs.Given.{cells_ready}
 use Rattle.expr.proofs.types.bare.Goals as goal
 
--- `bare`: a fresh variable, then unify.
 pub returns-in-Refused : goal.returns-in-Refused
 returns-in-Refused c = record { ran = λ slots notes h. ran_keeps (bare_keeps _ _ _ _ _ _ h c.requires.1) (unfold bare_rule in typed_none _ (c.fresh_type.ensures.ran slots notes h).same c.in-Refused.is) }
 

@@ -1,7 +1,7 @@
+-- `definition_code`: a definition without arguments.
 use Rattle.expr.specs.Rules.{definition_code}
 use Rattle.expr.proofs.types.definition_code.Goals as goal
 
--- `definition_code`: a definition without arguments.
 pub returns : goal.returns
 unfolding definition_code
 returns c = c.code_of.ensures

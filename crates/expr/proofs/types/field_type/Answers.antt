@@ -1,3 +1,4 @@
+-- `field_type`: the type of the field, then unify.
 use Rattle.laws.proofs.Choice.{lets}
 use Rattle.expr.specs.Rules.{field_type_rule}
 use Rattle.expr.proofs.Steps.{goes, stops, is}
@@ -5,7 +6,6 @@ use Rattle.expr.proofs.Kept.{ran_keeps}
 use Rattle.expr.proofs.Leaves.{field_type_keeps}
 use Rattle.expr.proofs.types.field_type.Goals as goal
 
--- `field_type`: the type of the field, then unify.
 pub returns-in-Refused : goal.returns-in-Refused
 returns-in-Refused c = record { ran = λ slots notes h. ran_keeps (field_type_keeps _ _ _ _ _ _ _ _ _ _ h c.requires.1.0 c.requires.1.1) (unfold field_type_rule in lets _ c.type_code.ensures (stops _ (c.meet.ensures.ran slots notes h).same c.in-Refused.is)) }
 

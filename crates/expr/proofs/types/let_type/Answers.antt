@@ -1,3 +1,4 @@
+-- `let_type`: a fresh variable, or the annotation.
 use mathlib.Core.Path.{refl}
 use Rattle.laws.proofs.Choice.{yes, no, lets}
 use Rattle.expr.specs.Rules.{let_type}
@@ -6,7 +7,6 @@ use Rattle.expr.proofs.Kept.{types_keeps}
 use Rattle.expr.proofs.Leaves.{let_type_keeps}
 use Rattle.expr.proofs.types.let_type.Goals as goal
 
--- `let_type`: a fresh variable, or the annotation.
 pub returns-then-annotation-eq0 : goal.returns-then-annotation-eq0
 returns-then-annotation-eq0 c = record { ran = λ slots notes h. types_keeps (let_type_keeps _ _ _ _ _ _ _ _ c.requires.1 h) (unfold let_type in let_type_none _ _ _ _ _ _ _ _ c.if-annotation-eq0.true (c.fresh_type.ensures.ran slots notes h).same) }
 

@@ -1,3 +1,4 @@
+-- `literal`: a bare number, or a type of its own.
 use Rattle.laws.proofs.Choice.{yes, no, lets}
 use borrow.Author.Tests.{eq-eqb, ne_eqb}
 use Rattle.expr.specs.Rules.{literal_rule}
@@ -6,7 +7,6 @@ use Rattle.expr.proofs.Kept.{ran_keeps}
 use Rattle.expr.proofs.Leaves.{literal_keeps}
 use Rattle.expr.proofs.types.literal.Goals as goal
 
--- `literal`: a bare number, or a type of its own.
 pub returns-then-op-eq-BARE_INTEGER : goal.returns-then-op-eq-BARE_INTEGER
 returns-then-op-eq-BARE_INTEGER c = record { ran = λ slots notes h. ran_keeps (literal_keeps _ _ c.args.n _ _ _ h c.requires.1) (unfold literal_rule in yes _ _ _ (eq-eqb _ _ c.if-op-eq-BARE_INTEGER.true) (c.bare.ensures.ran slots notes h).same) }
 

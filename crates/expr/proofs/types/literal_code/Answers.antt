@@ -1,10 +1,10 @@
+-- `literal_code`: unit for 7, else the primitive of that number.
 use Rattle.laws.proofs.Choice.{yes, no}
 use borrow.Author.Tests.{eq-eqb, ne_eqb}
 use mathlib.Core.Path.{refl}
 use Rattle.expr.specs.Rules.{literal_code}
 use Rattle.expr.proofs.types.literal_code.Goals as goal
 
--- `literal_code`: unit for 7, else the primitive of that number.
 pub returns-then-op-eq-UNIT_LITERAL : goal.returns-then-op-eq-UNIT_LITERAL
 unfolding literal_code
 returns-then-op-eq-UNIT_LITERAL c = yes _ _ _ (eq-eqb _ _ c.if-op-eq-UNIT_LITERAL.true) refl

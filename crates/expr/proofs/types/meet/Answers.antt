@@ -1,10 +1,10 @@
+-- `meet`: what `unify` answers, as a step.
 use mathlib.Core.Path.{sym, ap, ◌∙◌}
 use Rattle.expr.specs.State.{step_for}
 use Rattle.expr.proofs.Steps.{met}
 use Rattle.expr.proofs.Kept.{ran_keeps, unify_keeps}
 use Rattle.expr.proofs.types.meet.Goals as goal
 
--- `meet`: what `unify` answers, as a step.
 pub returns-in-Done : goal.returns-in-Done
 returns-in-Done c = record { ran = λ slots notes h. ran_keeps (unify_keeps _ _ _ _ _ _ h c.requires.1.0 c.requires.1.1) (met c.unify.ensures (c.done.ensures ∙ sym (ap (step_for _) c.in-Done.is)) slots notes) }
 

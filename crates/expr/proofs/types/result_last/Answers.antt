@@ -1,3 +1,4 @@
+-- `result_last`: for the operators past the first eight.
 use Rattle.laws.proofs.Choice.{yes, no}
 use borrow.Author.Tests.{le-leb, lt-leb}
 use Rattle.expr.specs.Rules.{result_last}
@@ -6,7 +7,6 @@ use Rattle.expr.proofs.Kept.{ran_keeps}
 use Rattle.expr.proofs.Leaves.{result_last_keeps}
 use Rattle.expr.proofs.types.result_last.Goals as goal
 
--- `result_last`: for the operators past the first eight.
 pub returns-then-op-le-NE : goal.returns-then-op-le-NE
 returns-then-op-le-NE c = record { ran = λ slots notes h. ran_keeps (result_last_keeps _ _ _ _ _ _ _ h c.requires.1.0 c.requires.1.1) (unfold result_last in yes _ _ _ (le-leb _ _ c.if-op-le-NE.true) (is c.done.ensures)) }
 

@@ -1,3 +1,4 @@
+-- `slot`: open, or 33.
 use Rattle.laws.proofs.Choice.{yes, no, lets}
 use borrow.Author.Tests.{le-leb, lt-leb}
 use Rattle.expr.specs.Rules.{slot_rule}
@@ -6,7 +7,6 @@ use Rattle.expr.proofs.Kept.{ran_keeps}
 use Rattle.expr.proofs.Leaves.{slot_keeps}
 use Rattle.expr.proofs.types.slot.Goals as goal
 
--- `slot`: open, or 33.
 pub returns-then-x-ge-OPEN : goal.returns-then-x-ge-OPEN
 returns-then-x-ge-OPEN c = record { ran = λ notes h. ran_keeps (slot_keeps _ _ c.args.n _ _ _ h c.requires.1.0) (unfold slot_rule in lets _ c.slot_at-x.ensures (yes _ _ _ (le-leb _ _ c.if-x-ge-OPEN.true) (c.meet.ensures.ran _ notes h).same)) }
 

@@ -1,10 +1,10 @@
+-- `field_in`: 32, then 35, then its type.
 use mathlib.Core.Path.{refl, sym, ◌∙◌}
 use Rattle.laws.proofs.Choice.{yes, no}
 use Rattle.members.specs.Field.{field_in}
 use Rattle.members.proofs.Finding.{finds, finds_none, finds_word}
 use Rattle.members.proofs.access.field_in.Goals as goal
 
--- `field_in`: 32, then 35, then its type.
 pub returns-then-is_marked : goal.returns-then-is_marked
 unfolding field_in
 returns-then-is_marked c = rw (← finds_word _ _ _ _ c.list_len-n.ensures c.find_pair-k.ensures c.list_item-field.ensures) (yes _ _ _ (finds _ _ _ _ c.list_len-n.ensures c.find_pair-k.ensures c.if-k-n.true) (yes _ _ _ (sym c.is_marked.ensures ∙ c.if-is_marked.true) refl))

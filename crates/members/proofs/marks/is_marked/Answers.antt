@@ -1,3 +1,4 @@
+-- `is_marked`: a row past the table is not.
 use mathlib.Core.Path.{ap}
 use mathlib.Core.Bool.{not}
 use lib.Dec.{eqb}
@@ -6,7 +7,6 @@ use Rattle.laws.proofs.Bounded.{get_in, get_out}
 use Rattle.members.specs.Marks.{is_marked}
 use Rattle.members.proofs.marks.is_marked.Goals as goal
 
--- `is_marked`: a row past the table is not.
 pub returns-then-i-lt-CAPACITY : goal.returns-then-i-lt-CAPACITY
 unfolding is_marked
 returns-then-i-lt-CAPACITY c = ap (λ (x : ℕ). not (eqb x 0)) (get_in 2048 _ _ c.if-i-lt-CAPACITY.true)

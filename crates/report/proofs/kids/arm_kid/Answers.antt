@@ -1,3 +1,4 @@
+-- `arm_kid`: the examinee, or of an arm its guard or its body.
 use Prim.Native.Nat.{ℕ, zero, suc, ◌+◌, ◌-◌, ◌*◌, ◌/◌, ◌%◌}
 use mathlib.Core.Path.{◌≡◌, refl, ap}
 use mathlib.Core.List.{List, [], ◌∷◌}
@@ -10,7 +11,6 @@ use Rattle.pack.specs.declared.counts.Counts.{Counts}
 use Rattle.report.specs.Kids.{arm_kid}
 use Rattle.report.proofs.kids.arm_kid.Goals as goal
 
--- `arm_kid`: the examinee, or of an arm its guard or its body.
 module _ (p : List ℕ) (c : Counts) (examinee arms : ℕ) where
   first : (k : ℕ) → k ≡ 0 → examinee ∷ [] ≡ arm_kid p c examinee arms k
   unfolding arm_kid

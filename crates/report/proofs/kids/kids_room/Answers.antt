@@ -1,3 +1,4 @@
+-- `kids_room`: the rule of each kind.
 use mathlib.Core.Path.{refl, ap}
 use Prim.Native.Nat.{ℕ, ◌+◌, ◌*◌}
 use Rattle.laws.specs.Choice.{by_kind}
@@ -6,7 +7,6 @@ use Rattle.report.specs.Kids.{kids_room}
 use native.Mathlib.Omega.{arith}
 use Rattle.report.proofs.kids.kids_room.Goals as goal
 
--- `kids_room`: the rule of each kind.
 pub returns-in-2 : goal.returns-in-2
 unfolding kids_room by_kind
 returns-in-2 c = record { same = rw c.in-2.is (ap (λ (n : ℕ). n + 1) c.list_len.ensures.same); small = omega (arith, c.list_len.ensures.small) }

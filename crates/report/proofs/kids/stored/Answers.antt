@@ -1,3 +1,4 @@
+-- `stored`: none, or what is stored less one.
 use Prim.Native.Nat.{ℕ, zero, suc, ◌-◌}
 use mathlib.Core.Path.{◌≡◌, refl}
 use mathlib.Core.List.{[], ◌∷◌}
@@ -5,7 +6,6 @@ use native.Mathlib.Omega.{arith}
 use Rattle.pack.specs.Named.{optional}
 use Rattle.report.proofs.kids.stored.Goals as goal
 
--- `stored`: none, or what is stored less one.
 none : (x : ℕ) → x ≡ 0 → [] ≡ optional x
 none zero e = refl
 none (suc x) e = absurd (omega arith)

@@ -1,8 +1,8 @@
+-- `write_one`: a node with room for its word, or without.
 use native.Mathlib.Omega.{arith}
 use Rattle.report.proofs.Writing.{one_written, one_passed, node_length}
 use Rattle.report.proofs.tree.write_one.Goals as goal
 
--- `write_one`: a node with room for its word, or without.
 pub write_node-requires : goal.write_node-requires
 write_node-requires c = (c.requires.live, (rw c.note_at-note.ensures (c.requires.known _), omega (arith, c.if-id-area.true)))
 

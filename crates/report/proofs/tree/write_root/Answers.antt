@@ -1,9 +1,9 @@
+-- `write_root`: the words along the tree, then no variable in use.
 use mathlib.Core.Path.{ap}
 use Rattle.report.specs.Report.{reported}
 use Rattle.report.proofs.Writing.{wrote_long}
 use Rattle.report.proofs.tree.write_root.Goals as goal
 
--- `write_root`: the words along the tree, then no variable in use.
 pub unset_cells-requires : goal.unset_cells-requires
 unset_cells-requires c = c.write_tree.ensures.held.live
 

@@ -1,7 +1,7 @@
+-- `keep_list`: what is found and told of the list, stored.
 use Rattle.structure.proofs.Forest.{cell_most}
 use Rattle.structure.proofs.numbering.keep_list.Goals as goal
 
--- `keep_list`: what is found and told of the list, stored.
 pub returns : goal.returns
 returns c = (
   record {

@@ -1,8 +1,8 @@
+-- `keep_row`: the key, the number and the mark, stored.
 use mathlib.Core.Path.{refl}
 use native.Mathlib.Omega.{arith}
 use Rattle.structure.proofs.numbering.keep_row.Goals as goal
 
--- `keep_row`: the key, the number and the mark, stored.
 pub bounds-marks-i : goal.bounds-marks-i
 bounds-marks-i c = c.requires.0
 

@@ -1,8 +1,8 @@
+-- `slot_at`: by the two tests of the kind. A list's start has 14 bits, so nothing wraps.
 use Rattle.structure.proofs.Reading.{row_small, slot_pairs, slot_items, slot_none}
 use native.Mathlib.Omega.{arith}
 use Rattle.structure.proofs.slots.slot_at.Goals as goal
 
--- `slot_at`: by the two tests of the kind. A list's start has 14 bits, so nothing wraps.
 pub overflow_mul-result : goal.overflow_mul-result
 overflow_mul-result c = omega (arith, row_small _ _ c.type_row-row.ensures)
 

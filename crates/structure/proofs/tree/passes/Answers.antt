@@ -1,9 +1,9 @@
+-- `passes`: by the test that the array has for the fork.
 use mathlib.Core.Path.{refl, sym, ◌∙◌}
 use native.Mathlib.Omega.{arith}
 use Rattle.structure.proofs.Walking.{passing_none, passing_fork}
 use Rattle.structure.proofs.tree.passes.Goals as goal
 
--- `passes`: by the test that the array has for the fork.
 pub bounds-tests-g : goal.bounds-tests-g
 bounds-tests-g c = omega (arith, c.cell_at-g.ensures.same, c.requires.1.high c.args.d)
 

@@ -1,9 +1,9 @@
+-- `turn_at`: by the fork's test, and the chain of its members.
 use mathlib.Core.Path.{refl, sym, ◌∙◌}
 use native.Mathlib.Omega.{arith}
 use Rattle.structure.proofs.Walking.{turned_none, turned_fork, member_head}
 use Rattle.structure.proofs.tree.turn_at.Goals as goal
 
--- `turn_at`: by the fork's test, and the chain of its members.
 pub bounds-tests-g : goal.bounds-tests-g
 bounds-tests-g c = omega (arith, c.cell_at-g.ensures.same, c.requires.1.high c.args.d)
 

@@ -1,8 +1,8 @@
+-- `resolve_type`: a variable is found, any other type is itself.
 use mathlib.Core.Path.{sym, ◌∙◌}
 use Rattle.unify.proofs.Resolving.{cell_below, from_find, from_itself}
 use Rattle.unify.proofs.sides.resolve_type.Goals as goal
 
--- `resolve_type`: a variable is found, any other type is itself.
 pub find-requires : goal.find-requires
 find-requires c = (rw c.number_of.ensures (cell_below c.requires.0 c.requires.1 (sym c.is_var.ensures ∙ c.if-is_var.true)), c.requires.0.loopfree)
 

@@ -1,9 +1,9 @@
+-- `unify`: both sides resolved, then the plan.
 use mathlib.Core.Path.{sym, ◌∙◌}
 use Rattle.unify.specs.declared.plan.Plan.TheVariants.{Same, Clash, Store}
 use Rattle.unify.proofs.Unifying.{unifies}
 use Rattle.unify.proofs.sides.unify.Goals as goal
 
--- `unify`: both sides resolved, then the plan.
 pub returns-in-Same : goal.returns-in-Same
 returns-in-Same c = unifies c.requires.0 c.requires.1.0 c.requires.1.1 c.resolve_type-a.ensures c.resolve_type-b.ensures _ _ {p = Same} (sym c.in-Same.is ∙ c.plan_for.ensures)
 

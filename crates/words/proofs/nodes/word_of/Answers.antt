@@ -1,7 +1,7 @@
+-- `word_of`: a note's type resolved, then the word.
 use Rattle.words.specs.Words.{word_of}
 use Rattle.words.proofs.nodes.word_of.Goals as goal
 
--- `word_of`: a note's type resolved, then the word.
 pub resolve_type-found-requires : goal.resolve_type-found-requires
 resolve_type-found-requires c = (c.requires.0, rw c.code_noted-code.ensures c.requires.1)
 
