@@ -1,3 +1,4 @@
+-- `count_missing`: the variants below k that no arm covers.
 use mathlib.Core.Bool.{not}
 use Prim.Native.Nat.{◌-◌}
 use Rattle.pack.specs.Lists.{list_len}

@@ -1,3 +1,4 @@
+-- `has_free`: the arms of the name, one after the other.
 use Prim.Native.Nat.{◌-◌}
 use Rattle.arms.proofs.Covering.{FreeLeft}
 use Rattle.arms.proofs.arms.has_free.Given as goal

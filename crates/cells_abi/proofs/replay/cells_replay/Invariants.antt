@@ -1,3 +1,4 @@
+-- What is left leaves what the whole leaves.
 use Prim.Native.Nat.{◌-◌}
 use mathlib.Core.Path.{◌≡◌}
 use lib.ListN.{length}

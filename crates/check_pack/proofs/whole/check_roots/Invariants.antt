@@ -1,3 +1,4 @@
+-- The roots from i on say what all of them say, and the tables are ready for the next one.
 use mathlib.Core.Path.{◌≡◌}
 use Prim.Native.Nat.{◌-◌}
 use lib.ListN.{length}

@@ -1,3 +1,4 @@
+-- The measures of the cycle.
 use Prim.Native.Nat.{◌-◌}
 use Rattle.expr.specs.State.{env, st}
 use Rattle.expr.proofs.Lists.{ArmsLeft}

@@ -1,3 +1,4 @@
+-- `any_field_marked`: whether one of the second words is marked.
 use Prim.Native.Nat.{◌+◌, ◌*◌, ◌-◌}
 use Rattle.pack.specs.Lists.{list_len, list_item}
 use Rattle.members.specs.Marks.{is_marked, any_field_marked}

@@ -1,3 +1,4 @@
+-- `any_marked`: whether one of the types is marked.
 use Prim.Native.Nat.{◌-◌}
 use Rattle.pack.specs.Lists.{list_len, list_item}
 use Rattle.members.specs.Marks.{is_marked, any_marked}

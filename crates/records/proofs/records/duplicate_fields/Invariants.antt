@@ -1,3 +1,4 @@
+-- `duplicate_fields`: the fields below j that name a member again.
 use mathlib.Core.Bool.{◌&&◌}
 use Prim.Native.Nat.{◌-◌}
 use Rattle.pack.specs.Lists.{list_len}

@@ -1,3 +1,4 @@
+-- `strangers`: the given names below j that the list has not.
 use mathlib.Core.Bool.{not}
 use Prim.Native.Nat.{◌-◌}
 use Rattle.pack.specs.Lists.{list_len}

@@ -1,3 +1,4 @@
+-- `block_kid`: a statement, or the last expression.
 use mathlib.Core.Path.{refl, ap}
 use mathlib.Core.List.{[], ◌∷◌}
 use Prim.Native.Nat.{ℕ}

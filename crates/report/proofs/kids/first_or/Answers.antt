@@ -1,3 +1,4 @@
+-- `first_or`: the first place, or the other.
 use mathlib.Core.Path.{refl}
 use Rattle.laws.proofs.Choice.{yes, no}
 use Rattle.laws.proofs.Told.{eq, ne}

@@ -1,3 +1,4 @@
+-- `kid_at`: the rule of each kind.
 use mathlib.Core.Path.{refl, ap}
 use mathlib.Core.List.{[], ◌∷◌}
 use Prim.Native.Nat.{ℕ}

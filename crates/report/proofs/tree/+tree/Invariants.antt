@@ -1,3 +1,5 @@
+-- `write_tree` and `write_kids` call each other: the levels left fall.
+-- the children from place k on are left
 use Prim.Native.Nat.{◌+◌, ◌*◌, ◌-◌}
 use Rattle.report.specs.Kids.{kid_at}
 use Rattle.report.specs.Visits.{tree_of}

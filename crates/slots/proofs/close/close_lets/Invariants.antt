@@ -1,3 +1,4 @@
+-- `close_lets`: the statements from the k-th on are left.
 use Prim.Native.Nat.{◌-◌}
 use Rattle.pack.specs.Lists.{list_item}
 use Rattle.slots.specs.Slots.{let_slot, close_lets}

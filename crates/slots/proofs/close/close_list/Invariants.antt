@@ -1,3 +1,4 @@
+-- `close_list`: the slots from the k-th on are left.
 use Prim.Native.Nat.{◌-◌}
 use mathlib.Core.List.{[], ◌∷◌}
 use Rattle.pack.specs.Lists.{list_item}

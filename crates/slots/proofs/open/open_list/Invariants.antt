@@ -1,3 +1,4 @@
+-- `open_list`: the slots from the k-th on are left.
 use Prim.Native.Nat.{◌-◌}
 use Rattle.pack.specs.Lists.{list_item}
 use Rattle.structure.specs.Types.{code_in}

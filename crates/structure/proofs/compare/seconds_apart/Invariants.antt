@@ -1,3 +1,4 @@
+-- All words below m are the same.
 use Prim.Native.Nat.{◌+◌, ◌*◌, ◌-◌}
 use lib.Dec.{eqb}
 use Rattle.laws.specs.First.{until}

@@ -1,3 +1,4 @@
+-- No row below j has a list that looks the same.
 use mathlib.Core.Path.{◌≡◌}
 use mathlib.Core.Bool.{false}
 use Prim.Native.Nat.{ℕ, ◌-◌, ◌<◌, ◌≤◌}

@@ -1,3 +1,4 @@
+-- Of the words below m, as many name a marked type as were counted.
 use Prim.Native.Nat.{◌+◌, ◌-◌, ◌%◌}
 use lib.Dec.{eqb}
 use Rattle.laws.specs.First.{all}

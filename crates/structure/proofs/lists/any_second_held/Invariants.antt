@@ -1,3 +1,4 @@
+-- No word of an item below m names a marked type.
 use Prim.Native.Nat.{◌+◌, ◌*◌, ◌-◌, ◌%◌}
 use lib.Dec.{eqb}
 use Rattle.laws.specs.First.{all}

@@ -1,3 +1,4 @@
+-- `items_like`: each item below m looks the same.
 use Prim.Native.Nat.{◌-◌}
 use Rattle.laws.specs.First.{all}
 use Rattle.laws.proofs.First.{AllLeft}

@@ -1,3 +1,4 @@
+-- `list_held`: no type of an item below m is marked.
 use Prim.Native.Nat.{◌-◌}
 use lib.Dec.{eqb}
 use Rattle.laws.specs.First.{all}

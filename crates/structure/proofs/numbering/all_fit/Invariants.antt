@@ -1,3 +1,4 @@
+-- `all_fit`: the lists of the rows below k fit.
 use Prim.Native.Nat.{◌-◌}
 use Rattle.laws.specs.First.{all}
 use Rattle.laws.proofs.First.{AllLeft}

@@ -1,3 +1,4 @@
+-- `number_rows`: the rows below i are done.
 use Prim.Native.Nat.{◌-◌, ◌≤◌}
 use Rattle.structure.specs.Buckets.{Chained}
 use Rattle.structure.specs.Tree.{Shape, RootsLow}

@@ -1,3 +1,4 @@
+-- No row from j on passes.
 use Rattle.structure.specs.Table.{entry, has_key}
 use Rattle.structure.specs.Buckets.{bucket_of}
 use Rattle.structure.proofs.Chaining.{Walk}

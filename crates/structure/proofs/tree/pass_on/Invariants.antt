@@ -1,3 +1,4 @@
+-- `pass_on`: from the first cell to d.
 use Prim.Native.Nat.{◌-◌}
 use Rattle.structure.specs.Words.{look_at}
 use Rattle.structure.specs.Tree.{cells_len}

@@ -1,3 +1,4 @@
+-- `walk`: from the root to cell d of row `row`, and l is the member to turn to there.
 use Prim.Native.Nat.{◌-◌}
 use Rattle.structure.specs.Words.{look_at}
 use Rattle.structure.proofs.Walking.{Going}

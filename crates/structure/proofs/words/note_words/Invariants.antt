@@ -1,3 +1,4 @@
+-- `note_words`: the words from j on that name type i are done.
 use Rattle.structure.proofs.Noting.{Noting}
 use Rattle.structure.proofs.words.note_words.Given as goal
 

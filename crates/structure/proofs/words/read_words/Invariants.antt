@@ -1,3 +1,4 @@
+-- `read_words`: the words below j are read and chained.
 use Prim.Native.Nat.{◌-◌, ◌≤◌}
 use Rattle.pack.specs.Lists.{list_word}
 use Rattle.structure.specs.Lists.{words}

@@ -1,3 +1,4 @@
+-- The measures of the cycle.
 use Prim.Native.Nat.{◌+◌, ◌*◌, ◌-◌}
 use Prim.Native.Nat.{◌-◌}
 use Rattle.tarjan.specs.Search.{lent}

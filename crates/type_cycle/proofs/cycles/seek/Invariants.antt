@@ -1,3 +1,4 @@
+-- Those from low on and below m, in the order in which they were left: none of the first i leads to itself.
 use Rattle.type_cycle.proofs.OrderLaws.{Seeking}
 use Prim.Native.Nat.{◌-◌}
 use Rattle.type_cycle.proofs.cycles.seek.Given as goal

@@ -1,3 +1,4 @@
+-- The measures of the cycle.
 use Rattle.laws.specs.Lists.{count}
 use Rattle.type_cycle.proofs.SkipLaws.{tier}
 use Prim.Native.Nat.{◌+◌, ◌*◌}

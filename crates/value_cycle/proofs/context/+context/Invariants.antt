@@ -1,3 +1,4 @@
+-- The measures of the cycle.
 use Prim.Native.Nat.{◌-◌}
 use Rattle.value_cycle.proofs.Contexts.{Searching}
 use Prim.Native.Nat.{◌+◌, ◌*◌, ◌-◌}
