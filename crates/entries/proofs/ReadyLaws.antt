@@ -10,13 +10,13 @@
 use Prim.Native.Nat.{ℕ, ◌*◌, ◌≤◌, ◌<◌}
 use native.Mathlib.Omega.{arith}
 use mathlib.Core.Path.{◌≡◌, refl, sym, ap, ◌∙◌}
-use mathlib.Core.Bool.{Bool, true}
+use mathlib.Core.Bool.{true}
 use mathlib.Core.List.{List}
 use lib.Dec.{leb, ltb}
 use lib.ListN.{length}
 use borrow.Author.Tests.{leb-true, le-leb, ltb-true, lt-ltb}
 use Rattle.laws.specs.Answers.{after}
-use Rattle.laws.proofs.Choice.{yes, no, by_test, fails}
+use Rattle.laws.proofs.Choice.{yes, fails}
 use Rattle.laws.proofs.Answers.{follows, stands, passed}
 use Rattle.pack.specs.Answer.{needs, passes}
 use Rattle.pack.specs.Counts.{in_limits}

@@ -19,7 +19,6 @@ use Rattle.unionfind.specs.declared.codes.Kind.{Kind}
 use Rattle.unionfind.specs.declared.answer.Made.{Made}
 use Rattle.unionfind.specs.declared.answer.Made.TheVariants as made
 use Rattle.unionfind.specs.declared.answer.Answer.{Answer}
-use Rattle.unionfind.specs.declared.answer.Answer.TheVariants as answer
 use Rattle.unify.specs.Unify.{answer_to, both_settled, plan_for, unify_answer}
 use Rattle.unify.specs.declared.plan.Plan.{Plan}
 use Rattle.unify.specs.declared.plan.Plan.TheVariants as plan

@@ -25,7 +25,7 @@ use Rattle.pack.specs.declared.rows.RootRow.{RootRow}
 use Rattle.laws.specs.declared.refusal.Refusal.{Refusal}
 use Rattle.laws.specs.Bounded.{get}
 use Rattle.rows.proofs.Promises.{root_inside}
-use Rattle.formed.proofs.Promises.{WellFormed, well_formed}
+use Rattle.formed.proofs.Promises.{well_formed}
 use Rattle.unionfind.specs.Cells.{capacity, Knows, Live}
 use Rattle.unionfind.proofs.States.{selves_empty}
 use Rattle.report.specs.Visits.{tree_of}

@@ -8,7 +8,7 @@ use Rattle.cells_abi.proofs.Replaying.{Left}
 use Rattle.cells_abi.proofs.replay.cells_replay.Given as goal
 
 abbrev pub invariant-loop-i : goal.invariant-loop-i
-invariant-loop-i l = 
+invariant-loop-i l =
     Left l.script l.ops l.i l.n l.cells l.answers (replay_of l.script l.ops l.initial.answers) × (Live l.n l.cells × (length l.answers ≡ length l.initial.answers))
 
 abbrev pub decreases-loop-i : goal.decreases-loop-i

@@ -6,7 +6,7 @@ use Rattle.entries.proofs.ReadyLaws.{order_ready}
 use Rattle.entries.proofs.order.order_values.Goals as goal
 
 pub find_compilation_order-requires : goal.find_compilation_order-requires
-find_compilation_order-requires c = 
+find_compilation_order-requires c =
     let ready = order_ready _ _ _ (sym c.ready_to_order-ready.ensures ∙ c.in-Pack.is) in
     orders _ _ _ ready.0 ready.1
 

@@ -8,12 +8,12 @@ use native.Mathlib.Omega.{arith}
 use Rattle.entries.proofs.root.check_one.Goals as goal
 
 pub overflow_cast-root : goal.overflow_cast-root
-overflow_cast-root c = 
+overflow_cast-root c =
     let ready = root_ready _ _ _ _ (sym c.ready_to_check-ready.ensures ∙ c.in-Pack.is) in
     omega (arith, ready.1, (limited _ (well_formed _ _ ready.0).headed.limits).roots)
 
 pub check_numbered-requires : goal.check_numbered-requires
-check_numbered-requires c = 
+check_numbered-requires c =
     let ready = root_ready _ _ _ _ (sym c.ready_to_check-ready.ensures ∙ c.in-Pack.is) in
     (ready.0, ready.1, ready.2)
 

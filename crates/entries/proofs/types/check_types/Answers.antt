@@ -12,12 +12,12 @@ detect_type_cycles-requires c = types_ready _ _ (sym c.formed-reading.ensures �
 
 pub returns-in-Pack : goal.returns-in-Pack
 unfolding types_answer
-returns-in-Pack c = 
+returns-in-Pack c =
     let well = sym c.formed-reading.ensures ∙ c.in-Pack.is in
     follows passes _ _ (ap passes well) (c.detect_type_cycles.ensures ∙ ap (type_cycles_of _) (counts_are _ _ well))
 
 pub returns-in-Refused : goal.returns-in-Refused
 unfolding types_answer
-returns-in-Refused c = 
+returns-in-Refused c =
     let no-pack = sym c.formed-reading.ensures ∙ c.in-Refused.is in
     stands passes _ _ (ap passes no-pack) (sym no-pack)

@@ -68,22 +68,22 @@ abbrev pub decreases-stmts : goal.decreases-stmts
 decreases-stmts l = l.depth * 1000000 + 3
 
 abbrev pub invariant-arms_in_order-loop-k : goal.invariant-arms_in_order-loop-k
-invariant-arms_in_order-loop-k l = 
-  ArmsLeft l.depth (env l.pack l.c l.same l.marks l.ret) l.names l.id l.list l.arms l.n l.want l.vars (st l.initial.cells l.initial.slots l.initial.notes) l.k l.ended l.d l.used (st l.cells l.slots l.notes)
+invariant-arms_in_order-loop-k l =
+    ArmsLeft l.depth (env l.pack l.c l.same l.marks l.ret) l.names l.id l.list l.arms l.n l.want l.vars (st l.initial.cells l.initial.slots l.initial.notes) l.k l.ended l.d l.used (st l.cells l.slots l.notes)
 
 abbrev pub decreases-arms_in_order-loop-k : goal.decreases-arms_in_order-loop-k
 decreases-arms_in_order-loop-k l = l.n - l.k
 
 abbrev pub invariant-fields_in_order-loop-k : goal.invariant-fields_in_order-loop-k
-invariant-fields_in_order-loop-k l = 
-  FieldsLeft l.depth (env l.pack l.c l.same l.marks l.ret) l.names l.list l.fields l.n l.vars (st l.initial.cells l.initial.slots l.initial.notes) l.k l.d l.used (st l.cells l.slots l.notes)
+invariant-fields_in_order-loop-k l =
+    FieldsLeft l.depth (env l.pack l.c l.same l.marks l.ret) l.names l.list l.fields l.n l.vars (st l.initial.cells l.initial.slots l.initial.notes) l.k l.d l.used (st l.cells l.slots l.notes)
 
 abbrev pub decreases-fields_in_order-loop-k : goal.decreases-fields_in_order-loop-k
 decreases-fields_in_order-loop-k l = l.n - l.k
 
 abbrev pub invariant-stmts-loop-k : goal.invariant-stmts-loop-k
-invariant-stmts-loop-k l = 
-  StmtsLeft l.depth (env l.pack l.c l.same l.marks l.ret) l.names l.list l.n l.vars (st l.initial.cells l.initial.slots l.initial.notes) l.k l.d l.used (st l.cells l.slots l.notes)
+invariant-stmts-loop-k l =
+    StmtsLeft l.depth (env l.pack l.c l.same l.marks l.ret) l.names l.list l.n l.vars (st l.initial.cells l.initial.slots l.initial.notes) l.k l.d l.used (st l.cells l.slots l.notes)
 
 abbrev pub decreases-stmts-loop-k : goal.decreases-stmts-loop-k
 decreases-stmts-loop-k l = l.n - l.k
