@@ -286,32 +286,8 @@ def turn(path, info, module, say):
         text = "\n".join([m.group(3)] + lines[clause + 1 :])
         text = re.sub(r"(?<![^\s(),;{}])(" + "|".join(re.escape(p) for p in sorted(params, key=len, reverse=True)) + r")(?![^\s(),;{}.])", lambda mm: sub.get(mm.group(1), mm.group(1)), text) if params else text
         inv_out.append([f"abbrev pub {kind}-{new} : goal.{kind}-{new}"] + [l for l in lines[:clause]] + [f"{kind}-{new} l = {text}"])
-    uses = [l for l in head if not re.search(r"\.(Statement|Tie)\b", l) and "borrow.Author.Rules.{rules}" not in l and l.startswith(("use", "pub use"))]
+    uses = [l for l in head if not re.search(r"\.(Statement|Tie)\b", l) and l.startswith(("use", "pub use"))]
     notes = [l for l in head if l.startswith("--")]
-
-    def pick(blocks):
-        body = "\n".join("\n".join(b) for b in blocks)
-        words = set(re.findall(r"[^\s(){},;.]+", body)) | set(re.findall(r"[^\s(){},;]+", body))
-        out = []
-        for l in uses:
-            m = re.match(r"use (\S+?)\.\{(.*)\}$", l)
-            if not m:
-                m2 = re.match(r"use (\S+)(?: as (\S+))?$", l)
-                name = (m2.group(2) or m2.group(1).split(".")[-1]) if m2 else ""
-                if name in words:
-                    out.append(l)
-                continue
-            kept = []
-            for it in m.group(2).split(", "):
-                name = it.split(" as ")[-1]
-                ops = name.strip("◌")
-                if name in words or ("◌" in name and ops in words) or ("◌" in name and all(o in words for o in name.split("◌") if o)):
-                    kept.append(it)
-            if kept:
-                out.append(f"use {m.group(1)}.{{{', '.join(kept)}}}")
-        if "rules" in words:
-            out.append("use borrow.Author.Rules.{rules}")
-        return out
 
     other_blocks = [d["notes"] + d["lines"] for d in others]
     for d in others:
@@ -321,13 +297,13 @@ def turn(path, info, module, say):
     if inv_out:
         # what the invariants cite of the file's own goes there too
         need = [b for d, b in zip(others, other_blocks) if any(re.search(r"(?<![^\s(),;{}])" + re.escape(d["name"]) + r"(?![^\s(),;{}.])", "\n".join(x)) for x in inv_out)]
-        body = pick(inv_out + need) + [f"use {module}.Given as goal"]
+        body = cited(uses, inv_out + need) + [f"use {module}.Given as goal"]
         if need:
             said("an invariant cites a definition of the file: " + ", ".join(b[0] for b in need))
         with open(os.path.join(folder, "Invariants.antt"), "w", encoding="utf-8") as f:
             f.write("\n".join(notes + body) + "\n" + "".join("\n" + "\n".join(b) + "\n" for b in need + inv_out))
     if answers or other_blocks:
-        body = pick(other_blocks + answers) + [f"use {module}.Goals as goal"]
+        body = cited(uses, other_blocks + answers) + [f"use {module}.Goals as goal"]
         with open(os.path.join(folder, "Answers.antt"), "w", encoding="utf-8") as f:
             f.write("\n".join(([] if inv_out else notes) + body) + "\n" + "".join("\n" + "\n".join(b) + "\n" for b in other_blocks + answers))
     os.remove(path)

@@ -22,7 +22,20 @@ pub shape_of-area : goal.shape_of-area
 shape_of-area c = let held = held_after c.expr.ensures c.in-Done.is in ap length (at_report c.requires.0 c.root_row-row.ensures c.root_marked.ensures c.if-root_marked.false c.type_code-ret.ensures c.empty.ensures c.open_pairs.ensures c.if-open_pairs.true c.requires.2 c.expr.ensures.same c.in-Done.is held.live held.known c.write_root.ensures).area ∙ words_length _ _ _ _
 
 pub returns-in-Done : goal.returns-in-Done
-returns-in-Done c = let held = held_after c.expr.ensures c.in-Done.is in tells_report c.requires.0 (at_body c.requires.0 c.root_row-row.ensures c.root_marked.ensures c.if-root_marked.false c.type_code-ret.ensures c.empty.ensures c.open_pairs.ensures c.if-open_pairs.true c.requires.2 c.expr.ensures.same) c.in-Done.is (at_report c.requires.0 c.root_row-row.ensures c.root_marked.ensures c.if-root_marked.false c.type_code-ret.ensures c.empty.ensures c.open_pairs.ensures c.if-open_pairs.true c.requires.2 c.expr.ensures.same c.in-Done.is held.live held.known c.write_root.ensures)
+returns-in-Done c =
+    let asked = c.requires.0 in
+    let row = c.root_row-row.ensures in
+    let marked = c.root_marked.ensures in
+    let plain = c.if-root_marked.false in
+    let ret = c.type_code-ret.ensures in
+    let empty = c.empty.ensures in
+    let opened = c.open_pairs.ensures in
+    let fits = c.if-open_pairs.true in
+    let body = c.expr.ensures.same in
+    let done = c.in-Done.is in
+    let held = held_after c.expr.ensures done in
+    tells_report asked (at_body asked row marked plain ret empty opened fits c.requires.2 body) done
+    (at_report asked row marked plain ret empty opened fits c.requires.2 body done held.live held.known c.write_root.ensures)
 
 pub returns-else-open_pairs : goal.returns-else-open_pairs
 returns-else-open_pairs c = tells_refused c.requires.0 (at_slot c.requires.0 c.root_row-row.ensures c.root_marked.ensures c.if-root_marked.false c.type_code-ret.ensures c.empty.ensures c.open_pairs.ensures c.if-open_pairs.false) refl c.refused_at-else-open_pairs.ensures c.requires.2.cells c.requires.2.notes

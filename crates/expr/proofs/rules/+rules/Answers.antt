@@ -1,65 +1,17 @@
 use borrow.Author.Rules.{rules}
-use Rattle.expr.specs.Rules.{field_rule}
-use Rattle.expr.proofs.Steps.{typed_none, is}
-use Rattle.expr.proofs.Meets.{meets_field}
-use Rattle.expr.proofs.Paths.{field_stops, field_is, field_found}
-use Rattle.expr.proofs.Given.{given_settled, given_accessed, given_typed, given_inner, own_inner, coded_inner}
-use Rattle.expr.proofs.Steps.{is}
-use Rattle.expr.proofs.Paths.{arm_refuses, arm_bound, arm_is}
-use Rattle.expr.proofs.Given.{given_opened}
+use Rattle.expr.specs.Rules.{field_rule, operator_rule, expr_rule, guard_rule, last_rule, match_rule, return_rule, returned_rule, kind_rule}
+use Rattle.expr.proofs.Steps.{typed_none, is, stops, goes}
+use Rattle.expr.proofs.Meets.{meets_field, meets_operator, meets_expr, meets_guard, meets_last, meets_match, meets_return, meets_returned, meets_kind}
+use Rattle.expr.proofs.Paths.{field_stops, field_is, field_found, arm_refuses, arm_bound, arm_is, body_guard_stops, body_stops, body_is, operator_none, operator_stops, operator_is, block_stops, block_last_stops, block_is, cases_stop, cases_are, cases_miss, expr_stops, expr_is, let_none, let_stops, let_is, let_bound, match_stops, match_diverges, match_is, record_refuses, record_stops, record_meet_stops, record_is, right_refuses, right_stops, right_last_stops, right_is, stmt_let, stmt_none, stmt_is}
+use Rattle.expr.proofs.Given.{given_settled, given_accessed, given_typed, given_inner, own_inner, coded_inner, given_opened, given_recorded, field_coded, fielded_from, plan_coded}
 use Rattle.expr.proofs.Kept.{after, coded_more}
-use Rattle.expr.proofs.Paths.{body_guard_stops, body_stops, body_is}
 use Rattle.expr.proofs.Keeps.{given_after}
-use Rattle.expr.proofs.Lists.{arms_start, arms_end, arms_ended, arms_stop, arms_go}
-use Rattle.expr.specs.Rules.{operator_rule}
-use Rattle.expr.proofs.Steps.{stops}
-use Rattle.expr.proofs.Meets.{meets_operator}
-use Rattle.expr.proofs.Given.{given_typed, given_inner, own_inner, coded_inner}
-use Rattle.expr.proofs.Paths.{operator_none, operator_stops, operator_is}
-use Rattle.expr.proofs.Paths.{block_stops, block_last_stops, block_is}
-use Rattle.expr.proofs.Paths.{cases_stop, cases_are, cases_miss}
-use Rattle.expr.specs.Rules.{expr_rule}
-use Rattle.expr.proofs.Recursions.{expr_none}
-use Rattle.expr.proofs.Meets.{meets_expr}
-use Rattle.expr.proofs.Paths.{expr_stops, expr_is}
-use Rattle.expr.proofs.Given.{given_recorded}
-use Rattle.expr.proofs.Lists.{fields_start, fields_end, fields_stop, fields_go}
-use Rattle.expr.proofs.Given.{field_coded}
-use Rattle.expr.specs.Rules.{guard_rule}
-use Rattle.expr.proofs.Recursions.{guard_none, guard_more}
-use Rattle.expr.proofs.Coding.{bool_coded}
-use Rattle.expr.proofs.Meets.{meets_guard}
+use Rattle.expr.proofs.Lists.{arms_start, arms_end, arms_ended, arms_stop, arms_go, fields_start, fields_end, fields_stop, fields_go, stmts_start, stmts_end, stmts_stop, stmts_go}
+use Rattle.expr.proofs.Recursions.{expr_none, guard_none, guard_more, last_none, last_more, returned_none, returned_more, at_kind, other_kind}
+use Rattle.expr.proofs.Coding.{bool_coded, unit_coded, definition_coded}
 use Rattle.laws.proofs.Choice.{yes, no}
-use Rattle.expr.specs.Rules.{last_rule}
-use Rattle.expr.proofs.Recursions.{last_none, last_more}
-use Rattle.expr.proofs.Coding.{unit_coded}
-use Rattle.expr.proofs.Meets.{meets_last}
-use Rattle.expr.proofs.Paths.{let_none, let_stops, let_is, let_bound}
-use Rattle.expr.proofs.Given.{given_recorded, given_typed}
-use Rattle.expr.specs.Rules.{match_rule}
-use Rattle.expr.proofs.Meets.{meets_match}
-use Rattle.expr.proofs.Paths.{match_stops, match_diverges, match_is}
-use Rattle.expr.proofs.Given.{given_settled, given_typed, given_inner, own_inner, coded_inner}
-use Rattle.expr.proofs.Coding.{definition_coded}
-use Rattle.expr.proofs.Paths.{record_refuses, record_stops, record_meet_stops, record_is}
-use Rattle.expr.proofs.Given.{fielded_from}
-use Rattle.expr.specs.Rules.{return_rule}
-use Rattle.expr.proofs.Steps.{goes, stops, is}
-use Rattle.expr.proofs.Meets.{meets_return}
 use native.Mathlib.Omega.{arith}
-use Rattle.expr.specs.Rules.{returned_rule}
-use Rattle.expr.proofs.Recursions.{returned_none, returned_more}
-use Rattle.expr.proofs.Kept.{coded_more}
-use Rattle.expr.proofs.Meets.{meets_returned}
-use Rattle.expr.proofs.Paths.{right_refuses, right_stops, right_last_stops, right_is}
-use Rattle.expr.proofs.Given.{given_settled, plan_coded}
 use Rattle.laws.specs.Choice.{pick}
-use Rattle.expr.specs.Rules.{kind_rule}
-use Rattle.expr.proofs.Recursions.{at_kind, other_kind}
-use Rattle.expr.proofs.Meets.{meets_kind}
-use Rattle.expr.proofs.Given.{given_typed}
-use Rattle.expr.proofs.Paths.{stmt_let, stmt_none, stmt_is}
-use Rattle.expr.proofs.Lists.{stmts_start, stmts_end, stmts_stop, stmts_go}
 use Rattle.expr.proofs.rules.+rules.Goals as goal
 
 -- ---- access_field
@@ -154,7 +106,15 @@ pub binop-expr-requires : goal.binop-expr-requires
 binop-expr-requires t c = (search rules, given_typed (given_after c.requires.0 (c.bool_first.ensures.ran _ _ c.requires.0.ready) c.in-Done.is) c.operand_type.ensures c.in-Type.is)
 
 pub binop-right-requires : goal.binop-right-requires
-binop-right-requires t c = (search (rules, c.decreases), (given_inner (given_after c.requires.0 (c.bool_first.ensures.ran _ _ c.requires.0.ready) c.in-Done.is) c.operand_type.ensures c.in-Type.is c.expr.ensures c.in-Done-expr.is, (coded_inner (given_after c.requires.0 (c.bool_first.ensures.ran _ _ c.requires.0.ready) c.in-Done.is) c.operand_type.ensures c.in-Type.is c.expr.ensures c.in-Done-expr.is (coded_more (after (c.bool_first.ensures.ran _ _ c.requires.0.ready) c.in-Done.is).0 c.requires.1), own_inner (given_after c.requires.0 (c.bool_first.ensures.ran _ _ c.requires.0.ready) c.in-Done.is) c.operand_type.ensures c.in-Type.is c.expr.ensures c.in-Done-expr.is)))
+binop-right-requires t c =
+    let ran = c.bool_first.ensures.ran _ _ c.requires.0.ready in
+    let given = given_after c.requires.0 ran c.in-Done.is in
+    let asked = c.operand_type.ensures in
+    let typed = c.in-Type.is in
+    let left = c.expr.ensures in
+    let done = c.in-Done-expr.is in
+    let coded = coded_inner given asked typed left done (coded_more (after ran c.in-Done.is).0 c.requires.1) in
+    (search (rules, c.decreases), (given_inner given asked typed left done, (coded, own_inner given asked typed left done)))
 
 pub binop-returns-in-Refused : goal.binop-returns-in-Refused
 binop-returns-in-Refused t c = meets_operator c.requires.0 _ c.requires.1 _ c.args.n (unfold operator_rule in stops _ (c.bool_first.ensures.ran _ _ c.requires.0.ready).same c.in-Refused.is)

@@ -1,10 +1,7 @@
 -- The measures of the cycle.
-use Prim.Native.Nat.{◌-◌}
+use Prim.Native.Nat.{◌-◌, ◌+◌, ◌*◌}
 use Rattle.expr.specs.State.{env, st}
-use Rattle.expr.proofs.Lists.{ArmsLeft}
-use Prim.Native.Nat.{◌+◌, ◌*◌}
-use Rattle.expr.proofs.Lists.{FieldsLeft}
-use Rattle.expr.proofs.Lists.{StmtsLeft}
+use Rattle.expr.proofs.Lists.{ArmsLeft, FieldsLeft, StmtsLeft}
 use Rattle.expr.proofs.rules.+rules.Given as goal
 
 abbrev pub decreases-access_field : goal.decreases-access_field

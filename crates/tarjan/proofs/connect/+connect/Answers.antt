@@ -1,11 +1,9 @@
 use native.Mathlib.Omega.{arith}
 use mathlib.Core.Path.{refl, sym, ap, ◌∙◌}
 use Rattle.tarjan.specs.declared.search.Run.{Run}
-use Rattle.tarjan.proofs.Arrays.{unseen, entered, looked_on, looked_off}
+use Rattle.tarjan.proofs.Arrays.{unseen, entered, looked_on, looked_off, stack_room, next_room, put}
 use Rattle.tarjan.proofs.Follows.{follow_start, follow_value, follow_turn, follow_end}
-use mathlib.Core.Path.{ap}
 use Rattle.components.specs.Tarjan.{push}
-use Rattle.tarjan.proofs.Arrays.{stack_room, next_room, put}
 use Rattle.tarjan.proofs.Leaves.{refs_values, pops, stays, leaves}
 use Rattle.tarjan.proofs.connect.+connect.Goals as goal
 

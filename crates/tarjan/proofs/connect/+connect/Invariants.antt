@@ -1,6 +1,5 @@
 -- The measures of the cycle.
 use Prim.Native.Nat.{◌+◌, ◌*◌, ◌-◌}
-use Prim.Native.Nat.{◌-◌}
 use Rattle.tarjan.specs.Search.{lent}
 use Rattle.tarjan.proofs.Follows.{Following}
 use Rattle.tarjan.proofs.connect.+connect.Given as goal

@@ -9,7 +9,14 @@ use native.Mathlib.Omega.{arith}
 use Rattle.trees.proofs.notes.note.Goals as goal
 
 pub returns-then-n-lt2 : goal.returns-then-n-lt2
-returns-then-n-lt2 c = unfold note_one in yes _ _ _ (lt-ltb (get nodes c.args.uses.now c.args.kid) 2 (omega (arith, get_in nodes c.args.uses.now c.args.kid c.if-k-lt-CAPACITY.true))) (ap₂ notes (put_in nodes _ _ _ c.if-k-lt-CAPACITY.true ∙ ap (λ (x : ℕ). put nodes c.args.uses.now c.args.kid (x + 1)) (get_in nodes c.args.uses.now c.args.kid c.if-k-lt-CAPACITY.true)) (put_in nodes _ _ _ c.if-k-lt-CAPACITY.true))
+unfolding note_one
+returns-then-n-lt2 c =
+    let uses = c.args.uses.now in
+    let kid = c.args.kid in
+    let room = c.if-k-lt-CAPACITY.true in
+    let told = get_in nodes uses kid room in
+    let counted = put_in nodes _ _ _ room ∙ ap (λ (x : ℕ). put nodes uses kid (x + 1)) told in
+    yes _ _ _ (lt-ltb (get nodes uses kid) 2 (omega (arith, told))) (ap₂ notes counted (put_in nodes _ _ _ room))
 
 pub returns-else-n-lt2 : goal.returns-else-n-lt2
 returns-else-n-lt2 c = unfold note_one in no _ _ _ (le-ltb (get nodes c.args.uses.now c.args.kid) 2 (omega (arith, get_in nodes c.args.uses.now c.args.kid c.if-k-lt-CAPACITY.true))) refl

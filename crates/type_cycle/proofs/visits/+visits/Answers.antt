@@ -1,19 +1,11 @@
-use Rattle.type_cycle.proofs.SkipLaws.{tier}
+use Rattle.type_cycle.proofs.SkipLaws.{tier, visits_item, visits_passed}
 use native.Mathlib.Omega.{arith}
-use Rattle.type_cycle.proofs.VisitLaws.{already}
-use Rattle.type_cycle.proofs.StepLaws.{enters_type, mark_can, mark_falls}
-use Rattle.type_cycle.proofs.VisitLaws.{nothing}
-use Rattle.type_cycle.proofs.StepLaws.{enum_types, record_types, no_types}
+use Rattle.type_cycle.proofs.VisitLaws.{already, nothing}
+use Rattle.type_cycle.proofs.StepLaws.{enters_type, mark_can, mark_falls, enum_types, record_types, no_types, variants_only, variant_inside, type_inside, visits_variant, visits_type, item_within, visited_can, whole_list, leaves_name, items_fields, part_types, name_ahead, past_ahead}
 use mathlib.Core.Path.{ap}
-use Rattle.type_cycle.proofs.StepLaws.{variants_only, variant_inside, type_inside, visits_variant, visits_type}
 use Rattle.laws.specs.Lists.{gather}
-use Rattle.type_cycle.proofs.StepLaws.{item_within, visited_can, whole_list}
-use Rattle.type_cycle.proofs.SkipLaws.{visits_item, visits_passed}
-use Rattle.type_cycle.specs.Graph.{at_name}
-use Rattle.type_cycle.proofs.StepLaws.{leaves_name, mark_can, mark_falls}
+use Rattle.type_cycle.specs.Graph.{at_name, row_ahead}
 use Rattle.laws.specs.Choice.{by_kind}
-use Rattle.type_cycle.specs.Graph.{row_ahead}
-use Rattle.type_cycle.proofs.StepLaws.{items_fields, part_types, name_ahead, past_ahead}
 use Rattle.type_cycle.proofs.visits.+visits.Goals as goal
 
 -- ---- visit

@@ -1,9 +1,7 @@
 -- The measures of the cycle.
-use Rattle.laws.specs.Lists.{count}
+use Rattle.laws.specs.Lists.{count, gather}
 use Rattle.type_cycle.proofs.SkipLaws.{tier}
-use Prim.Native.Nat.{◌+◌, ◌*◌}
-use Prim.Native.Nat.{◌≤◌, ◌-◌}
-use Rattle.laws.specs.Lists.{gather}
+use Prim.Native.Nat.{◌+◌, ◌*◌, ◌≤◌, ◌-◌}
 use Rattle.type_cycle.specs.Graph.{item_types}
 use Rattle.type_cycle.specs.Sizes.{counts_in}
 use Rattle.type_cycle.specs.Search.{st, Visited}

@@ -1,8 +1,7 @@
 use native.Mathlib.Omega.{arith}
-use Rattle.value_cycle.proofs.Contexts.{search_start, search_value, search_found, search_turn, search_end}
+use Rattle.value_cycle.proofs.Contexts.{search_start, search_value, search_found, search_turn, search_end, marking, seen, is_context, entered, less, marked_sized}
 use mathlib.Core.Path.{sym, ◌∙◌}
 use Rattle.tarjan.proofs.Leaves.{refs_values}
-use Rattle.value_cycle.proofs.Contexts.{marking, seen, is_context, entered, less, marked_sized}
 use Rattle.value_cycle.proofs.context.+context.Goals as goal
 
 -- ---- any_uses_context

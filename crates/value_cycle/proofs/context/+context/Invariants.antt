@@ -1,7 +1,6 @@
 -- The measures of the cycle.
-use Prim.Native.Nat.{◌-◌}
+use Prim.Native.Nat.{◌-◌, ◌+◌, ◌*◌}
 use Rattle.value_cycle.proofs.Contexts.{Searching}
-use Prim.Native.Nat.{◌+◌, ◌*◌, ◌-◌}
 use Rattle.laws.specs.Lists.{count}
 use Rattle.value_cycle.proofs.context.+context.Given as goal
 
