@@ -24,6 +24,9 @@ use Rattle.members.specs.Lookup.{name_at, is_member, member_of}
 use Rattle.members.specs.Marks.{any_marked}
 use Rattle.names.proofs.Tally.{tally_few}
 use Rattle.members.proofs.Counts.{none_any, found_any, any_found, tally_zero, zero_tally, tally_full}
+use Rattle.std.proofs.Common.{Some, None}
+use Rattle.laws.proofs.Choice.{some_none}
+use Rattle.laws.specs.declared.fault.Fault.TheVariants.{NoSuchVariant, PayloadGiven, PayloadMissing, PayloadLength, HoldsVariable}
 use Rattle.arms.specs.Match.{wild, payload_fault, arm_fault, covers, covered, missing_variants}
 
 -- ---- match
@@ -70,31 +73,31 @@ module _ (p : List ℕ) (c : Counts) (list arms : ℕ) where
 -- ---- an arm
 
 module _ (p : List ℕ) (c : Counts) (marks : List ℕ) (fields : ℕ) where
-  pub payload_bare : payload_fault p c marks fields 0 ≡ 0 → list_len p c fields ≡ 0
+  pub payload_bare : payload_fault p c marks fields 0 ≡ None → list_len p c fields ≡ 0
   unfolding payload_fault pick
   payload_bare e = go (eqb (list_len p c fields) 0) refl e
     where
-      go : (b : Bool) → eqb (list_len p c fields) 0 ≡ b → ◌≡◌ {A = ℕ} (pick b 0 28) 0 → list_len p c fields ≡ 0
+      go : (b : Bool) → eqb (list_len p c fields) 0 ≡ b → pick b None (Some PayloadMissing) ≡ None → list_len p c fields ≡ 0
       go true t q = eqb-true (list_len p c fields) 0 t
-      go false t q = absurd (omega arith)
+      go false t q = absurd (some_none q)
 
-  pub payload_right : (slots : ℕ) → payload_fault p c marks fields (suc slots) ≡ 0 → (list_len p c slots ≡ list_len p c fields) × (any_marked p c marks fields ≡ false)
+  pub payload_right : (slots : ℕ) → payload_fault p c marks fields (suc slots) ≡ None → (list_len p c slots ≡ list_len p c fields) × (any_marked p c marks fields ≡ false)
   unfolding payload_fault pick
   payload_right slots e = go (eqb (list_len p c fields) 0) (eqb (list_len p c slots) (list_len p c fields)) refl (any_marked p c marks fields) e
     where
-      go : (a b : Bool) → eqb (list_len p c slots) (list_len p c fields) ≡ b → (m : Bool) → ◌≡◌ {A = ℕ} (pick a 27 (pick b (pick m 35 0) 29)) 0 → (list_len p c slots ≡ list_len p c fields) × (m ≡ false)
-      go true b t m q = absurd (omega arith)
-      go false true t true q = absurd (omega arith)
+      go : (a b : Bool) → eqb (list_len p c slots) (list_len p c fields) ≡ b → (m : Bool) → pick a (Some PayloadGiven) (pick b (pick m (Some HoldsVariable) None) (Some PayloadLength)) ≡ None → (list_len p c slots ≡ list_len p c fields) × (m ≡ false)
+      go true b t m q = absurd (some_none q)
+      go false true t true q = absurd (some_none q)
       go false true t false q = (eqb-true (list_len p c slots) (list_len p c fields) t, refl)
-      go false false t m q = absurd (omega arith)
+      go false false t m q = absurd (some_none q)
 
-pub arm_right : (p : List ℕ) (c : Counts) (marks : List ℕ) (list name payload : ℕ) → arm_fault p c marks list name payload ≡ 0 → (name ≡ wild → ⊥)
-    → (is_member p c list name ≡ true) × (payload_fault p c marks (member_of p c list name) payload ≡ 0)
+pub arm_right : (p : List ℕ) (c : Counts) (marks : List ℕ) (list name payload : ℕ) → arm_fault p c marks list name payload ≡ None → (name ≡ wild → ⊥)
+    → (is_member p c list name ≡ true) × (payload_fault p c marks (member_of p c list name) payload ≡ None)
 unfolding arm_fault
 arm_right p c marks list name payload e w =
     by_test (is_member p c list name)
-    (λ t. (t, yes (is_member p c list name) _ 26 t refl ∙ q))
-    (λ f. let z : ◌≡◌ {A = ℕ} 26 0 = no (is_member p c list name) (payload_fault p c marks (member_of p c list name) payload) _ f refl ∙ q in absurd (omega arith))
+    (λ t. (t, yes (is_member p c list name) _ (Some NoSuchVariant) t refl ∙ q))
+    (λ f. absurd (some_none (no (is_member p c list name) (payload_fault p c marks (member_of p c list name) payload) (Some NoSuchVariant) f refl ∙ q)))
   where
-    q : pick (is_member p c list name) (payload_fault p c marks (member_of p c list name) payload) 26 ≡ 0
-    q = no (eqb name wild) 0 _ (ne_eqb name wild w) refl ∙ e
+    q : pick (is_member p c list name) (payload_fault p c marks (member_of p c list name) payload) (Some NoSuchVariant) ≡ None
+    q = no (eqb name wild) None _ (ne_eqb name wild w) refl ∙ e

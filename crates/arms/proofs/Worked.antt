@@ -14,6 +14,8 @@ use Rattle.members.specs.Types.{is_row, named_by}
 use Rattle.members.specs.Lookup.{is_member, member_of}
 use Rattle.members.specs.Marks.{is_marked, any_marked}
 use Rattle.members.proofs.Small.{bytes, counts, marks}
+use Rattle.std.proofs.Common.{Some, None}
+use Rattle.laws.specs.declared.fault.Fault.TheVariants.{NoSuchVariant, PayloadGiven, PayloadMissing, PayloadLength, HoldsVariable}
 use Rattle.arms.specs.Match.{subject_for, subject_of, payload_fault, arm_fault, covers, covered, missing_variants}
 use Rattle.arms.specs.declared.answer.Subject.TheVariants.{Enum, Other, Generic}
 
@@ -22,15 +24,15 @@ worked :
     × (subject_of bytes counts 114692 ≡ Generic)
     × (subject_of bytes counts 114689 ≡ Other)
     × (subject_of bytes counts 32779 ≡ Other)
-    × (◌≡◌ {A = ℕ} (arm_fault bytes counts marks 6 16383 0) 0)
-    × (◌≡◌ {A = ℕ} (arm_fault bytes counts marks 6 9 0) 26)
-    × (◌≡◌ {A = ℕ} (arm_fault bytes counts marks 6 5 0) 0)
-    × (◌≡◌ {A = ℕ} (arm_fault bytes counts marks 6 5 1) 27)
-    × (◌≡◌ {A = ℕ} (arm_fault bytes counts marks 6 6 0) 28)
-    × (◌≡◌ {A = ℕ} (arm_fault bytes counts marks 6 6 26) 29)
-    × (◌≡◌ {A = ℕ} (arm_fault bytes counts marks 6 6 1) 29)
-    × (◌≡◌ {A = ℕ} (arm_fault bytes counts marks 6 6 24) 0)
-    × (◌≡◌ {A = ℕ} (arm_fault bytes counts marks 6 7 26) 35)
+    × (arm_fault bytes counts marks 6 16383 0 ≡ None)
+    × (arm_fault bytes counts marks 6 9 0 ≡ Some NoSuchVariant)
+    × (arm_fault bytes counts marks 6 5 0 ≡ None)
+    × (arm_fault bytes counts marks 6 5 1 ≡ Some PayloadGiven)
+    × (arm_fault bytes counts marks 6 6 0 ≡ Some PayloadMissing)
+    × (arm_fault bytes counts marks 6 6 26 ≡ Some PayloadLength)
+    × (arm_fault bytes counts marks 6 6 1 ≡ Some PayloadLength)
+    × (arm_fault bytes counts marks 6 6 24 ≡ None)
+    × (arm_fault bytes counts marks 6 7 26 ≡ Some HoldsVariable)
     × (◌≡◌ {A = ℕ} (missing_variants bytes counts 6 28) 3)
     × (◌≡◌ {A = ℕ} (missing_variants bytes counts 6 33) 0)
     × (◌≡◌ {A = ℕ} (missing_variants bytes counts 6 38) 2)

@@ -1,6 +1,8 @@
 -- "Match: examinee; 23, 24, 36; arms in order, each: 25; 26 to 29; 35, then slots open for guard and body .. Then 30."
-use Rattle.std.specs.Prelude.{ℕ, ◌+◌, ◌*◌, List, Bool, not, ◌&&◌, ◌||◌, eqb}
+use Rattle.std.specs.Prelude.{ℕ, ◌+◌, ◌*◌, List, Bool, not, ◌&&◌, ◌||◌, eqb, option_map, unwrap_or, Option, Some, None}
 use Rattle.laws.specs.Choice.{pick}
+use Rattle.laws.specs.declared.fault.Fault.{Fault}
+use Rattle.laws.specs.declared.fault.Fault.TheVariants.{NoSuchVariant, PayloadGiven, PayloadMissing, PayloadLength, HoldsVariable}
 use Rattle.pack.specs.Lists.{list_len, list_item}
 use Rattle.pack.specs.Rows.{definition_row}
 use Rattle.pack.specs.declared.counts.Counts.{Counts}
@@ -24,28 +26,28 @@ subject_for r = pick (eqb r.kind enum_definition) (pick (eqb r.parameters 0) (En
 
 -- "24: isn't an enum", "36: definition with parameters in match": an enum's list of variants, where it is neither
 unfoldable pub subject_of : List ℕ → Counts → ℕ → Subject
-subject_of p c x = perhaps Other (λ d. subject_for (definition_row p c d)) (named_by p x)
+subject_of p c x = unwrap_or (option_map (λ d. subject_for (definition_row p c d)) (named_by p x)) Other
 
 -- ---- an arm
 
 -- "27 / 28 / 29: payload on a variant without fields / payload missing / wrong number", then "35": the fields of the variant, and the arm's
 -- slot list+1 or 0
-unfoldable pub payload_fault : List ℕ → Counts → List ℕ → ℕ → ℕ → ℕ
+unfoldable pub payload_fault : List ℕ → Counts → List ℕ → ℕ → ℕ → Option Fault
 payload_fault p c marks fields payload =
     perhaps
-    (pick (eqb (list_len p c fields) 0) 0 28)
+    (pick (eqb (list_len p c fields) 0) None (Some PayloadMissing))
     (λ slots.
-    pick (eqb (list_len p c fields) 0) 27
-    (pick (eqb (list_len p c slots) (list_len p c fields)) (pick (any_marked p c marks fields) 35 0)
-    29))
+    pick (eqb (list_len p c fields) 0) (Some PayloadGiven)
+    (pick (eqb (list_len p c slots) (list_len p c fields)) (pick (any_marked p c marks fields) (Some HoldsVariable) None)
+    (Some PayloadLength)))
     payload
 
 -- "26: no such variant"; none is named by `_`
-unfoldable pub arm_fault : List ℕ → Counts → List ℕ → ℕ → ℕ → ℕ → ℕ
+unfoldable pub arm_fault : List ℕ → Counts → List ℕ → ℕ → ℕ → ℕ → Option Fault
 arm_fault p c marks list name payload =
-    pick (eqb name wild) 0
+    pick (eqb name wild) None
     (pick (is_member p c list name) (payload_fault p c marks (member_of p c list name) payload)
-    26)
+    (Some NoSuchVariant))
 
 -- ---- all variants
 

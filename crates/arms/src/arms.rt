@@ -7,22 +7,20 @@ ghost use Rattle.arms.specs.Free.{arm_has, is_free};
 ghost use Rattle.arms.specs.Match.{wild, subject_for, subject_of, payload_fault, arm_fault, missing_variants};
 
 use crate::answer::Subject;
-use laws::{both, flag, unless};
+use laws::Fault;
 use members::{any_marked, name_at, named};
 use names::{NameIndex, find_pair, next_item};
-use pack::{Counts, DefinitionRow, definition_row, list_item, list_len};
+use pack::{Counts, DefinitionKind, DefinitionRow, definition_row, list_item, list_len};
 use structure::TypeTable;
-
-// The kind of an enum definition.
-const ENUM: u32 = 0;
 
 // What stands for a variant's name in an arm of `_`.
 const WILD: u32 = 16383;
 
+#[tactic(auto, unfolding(crate::specs::Match::subject_for, laws::specs::Choice::pick))]
 fn subject_for(row: DefinitionRow) -> Subject
     ensures { result ≡ subject_for row }
 {
-    if row.kind == ENUM {
+    if row.kind == DefinitionKind::Enum as u32 {
         if row.parameters == 0 {
             Subject::Enum(row.list)
         } else {
@@ -33,38 +31,47 @@ fn subject_for(row: DefinitionRow) -> Subject
     }
 }
 
+#[tactic(auto, unfolding(crate::specs::Match::subject_of))]
 pub fn examined(pack: &[u8], c: Counts, x: u32) -> Subject
     ensures { result ≡ subject_of pack.now c x }
 {
-    let definition = named(pack, x);
-    if definition == 0 {
-        Subject::Other
-    } else {
-        subject_for(definition_row(pack, c, definition - 1))
+    match named(pack, x) {
+        None => Subject::Other,
+        Some(definition) => subject_for(definition_row(pack, c, definition)),
     }
 }
 
-// 27 to 29 and 35, or 0: the list of the variant's field types, and the arm's slot list+1 or 0.
+// 27 to 29 and 35: the list of the variant's field types, and the arm's slot list+1 or 0.
+#[tactic(auto, unfolding(crate::specs::Match::payload_fault, laws::specs::Choice::pick))]
 fn payload_fault(
     pack: &[u8],
     c: Counts,
     marks: &[u32; TypeTable::CAPACITY],
     fields: u32,
     payload: u32,
-) -> u32
+) -> Option<Fault>
     ensures { result ≡ payload_fault pack.now c marks.now fields payload }
 {
     let n = list_len(pack, c, fields);
     if payload == 0 {
-        unless(n == 0, 28, 0)
+        if n == 0 {
+            None
+        } else {
+            Some(Fault::PayloadMissing)
+        }
+    } else if n == 0 {
+        Some(Fault::PayloadGiven)
+    } else if list_len(pack, c, payload - 1) != n {
+        Some(Fault::PayloadLength)
+    } else if any_marked(pack, c, marks, fields) {
+        Some(Fault::HoldsVariable)
     } else {
-        let held = unless(any_marked(pack, c, marks, fields), 0, 35);
-        let number = unless(list_len(pack, c, payload - 1) == n, 29, held);
-        unless(n == 0, number, 27)
+        None
     }
 }
 
-// The number of the first fault of an arm's pattern, or 0.
+// The first fault of an arm's pattern, if it has one.
+#[tactic(auto, unfolding(crate::specs::Match::arm_fault, members::specs::Lookup::is_member, members::specs::Lookup::member_of, laws::specs::Choice::pick))]
 pub fn arm_fault(
     pack: &[u8],
     c: Counts,
@@ -73,12 +80,12 @@ pub fn arm_fault(
     list: u32,
     name: u32,
     payload: u32,
-) -> u32
+) -> Option<Fault>
     requires { Indexed pack.now c names.now }
     ensures { result ≡ arm_fault pack.now c marks.now list name payload }
 {
     if name == WILD {
-        0
+        None
     } else {
         let n = list_len(pack, c, list);
         let k = find_pair(pack, c, names, list, name);
@@ -86,18 +93,19 @@ pub fn arm_fault(
             let fields = list_item(pack, c, list, 2 * k + 1);
             payload_fault(pack, c, marks, fields, payload)
         } else {
-            26
+            Some(Fault::NoSuchVariant)
         }
     }
 }
 
 // Whether item 2k of the arms is the name of one that has no guard.
+#[tactic(auto, unfolding(crate::specs::Free::is_free))]
 fn is_free(pack: &[u8], c: Counts, arms: u32, k: u32) -> bool
     requires { k < 131072 }
     ensures { result ≡ is_free pack.now c arms k }
 {
     let guard = list_item(pack, c, arms, 2 * k + 2);
-    both(k % 2 == 0, guard == 0)
+    k % 2 == 0 && guard == 0
 }
 
 // Whether an arm without a guard has that name, or that of `_`.
@@ -133,15 +141,9 @@ fn count_missing(
     requires { Indexed pack.now c names.now × (any (arm_has pack.now c arms wild) (list_len pack.now c arms) ≡ false) }
     ensures { result ≡ missing_variants pack.now c list arms }
 {
-    let n = list_len(pack, c, list);
-    let mut missing = 0;
-    let mut k = 0;
-    while k < n {
-        let met = has_free(pack, c, names, arms, name_at(pack, c, list, k));
-        missing += flag(!met);
-        k += 1;
-    }
-    missing
+    (0..list_len(pack, c, list))
+        .filter(|k| !has_free(pack, c, names, arms, name_at(pack, c, list, *k)))
+        .count() as u32
 }
 
 // How many variants no arm covers.

@@ -1,5 +1,4 @@
 -- The operations of a script one after the other: what is left from operation i on leaves what the whole leaves.
---     number_past      past the end of a script
 --     told             an operation whose two numbers were written
 --     told_length      the answers stay as long as they were
 --     begins, goes, ends   the steps of the loop
@@ -9,16 +8,12 @@ use Prim.Native.Nat.{ℕ, suc, ◌+◌, ◌*◌, ◌-◌, ◌<◌, ◌≤◌}
 use mathlib.Core.Path.{◌≡◌, refl, sym, ap, ◌∙◌}
 use mathlib.Core.List.{List}
 use native.Mathlib.Omega.{arith}
-use lib.ListN.{length, get_or-eq_default}
+use lib.ListN.{length}
 use Rattle.laws.specs.Bounded.{put}
 use Rattle.laws.proofs.Bounded.{put_length}
 use Rattle.unionfind.specs.Answers.{Empties}
 use Rattle.cells_abi.specs.Script.{Stepped, operation_of, number_at, step_of, noted, replay_from, replay_of, Steps, Told}
 use Rattle.cells_abi.specs.declared.operations.Step.{Step}
-
-pub number_past : (script : List ℕ) (i : ℕ) → length script ≤ i → number_at script i ≡ 0
-unfolding number_at
-number_past script i h = get_or-eq_default script 0 h
 
 module _ (script : List ℕ) (i n : ℕ) (xs out : List ℕ) where
   pub told : {op v x : ℕ} {r : Step} {ys first after : List ℕ} → op ≡ number_at script (3 * i) → v ≡ number_at script (3 * i + 1) → x ≡ number_at script (3 * i + 2)

@@ -12,27 +12,25 @@ use mathlib.Core.List.{List}
 use lib.Dec.{ltb}
 use lib.ListN.{get_or, set}
 use borrow.Author.Tests.{lt-ltb, le-ltb}
+use Rattle.std.proofs.Common.{Ok, Err}
+use Rattle.laws.specs.Faults.{number_of}
 use Rattle.laws.proofs.Choice.{yes, no, NoneOf, past_kinds}
 use Rattle.laws.specs.declared.refusal.Refusal.{Refusal}
 use Rattle.unionfind.specs.Cells.{found, Live}
-use Rattle.unionfind.specs.Answers.{Finds, set_answer, if_done, Sets, fresh_answer, Makes}
+use Rattle.unionfind.specs.Answers.{Answer, Made, Finds, set_answer, if_done, Sets, fresh_answer, Makes}
 use Rattle.unionfind.specs.declared.codes.Kind.{Kind}
-use Rattle.unionfind.specs.declared.answer.Answer.{Answer}
-use Rattle.unionfind.specs.declared.answer.Answer.TheVariants.{Done, Refused}
-use Rattle.unionfind.specs.declared.answer.Made.{Made}
-use Rattle.unionfind.specs.declared.answer.Made.TheVariants as made
 use Rattle.unionfind.proofs.States.{done_known, live_compressed, live_set}
 use Rattle.cells_abi.specs.Script.{if_made, make_step, find_step, ref_step, cell_step, if_set, set_step, operation_of, Steps}
 
 module _ {n : ℕ} {xs ys : List ℕ} {kind : Kind} {r : Made} (m : Makes n xs kind r ys) where
-  pub made_code : {x : ℕ} → r ≡ made.Code x → Steps (make_step kind n xs) (record { answer = x; place = 0; len = n + 1 }) ys
+  pub made_code : {x : ℕ} → r ≡ Ok x → Steps (make_step kind n xs) (record { answer = x; place = 0; len = n + 1 }) ys
   unfolding make_step
   made_code e = record {
     same = ap (if_made n ys) (sym e ∙ m.answer) ∙ ap (λ zs. if_made n zs (fresh_answer n kind)) m.cells;
     live = (rw e at m.live).0;
   }
 
-  pub made_none : {q : Refusal} → r ≡ made.Refused q → Steps (make_step kind n xs) (record { answer = q.number; place = q.place; len = n }) ys
+  pub made_none : {q : Refusal} → r ≡ Err q → Steps (make_step kind n xs) (record { answer = number_of q.fault; place = q.place; len = n }) ys
   unfolding make_step
   made_none e = record {
     same = ap (if_made n ys) (sym e ∙ m.answer) ∙ ap (λ zs. if_made n zs (fresh_answer n kind)) m.cells;
@@ -65,17 +63,17 @@ module _ {n : ℕ} {xs : List ℕ} (l : Live n xs) (v : ℕ) where
   unknown_ref h = record { same = no (ltb v n) _ _ (le-ltb v n h) refl; live = l }
 
 module _ {n : ℕ} {xs ys : List ℕ} (l : Live n xs) {v x : ℕ} {r : Answer} (s : Sets n xs v x r ys) where
-  pub set_done : r ≡ Done → Steps (set_step v x n xs) (record { answer = 0; place = 0; len = n }) ys
+  pub set_done : r ≡ Ok _ → Steps (set_step v x n xs) (record { answer = 0; place = 0; len = n }) ys
   unfolding set_step
   set_done e = record {
     same = ap (if_set n ys) (sym e ∙ s.answer) ∙ ap (λ zs. if_set n zs (set_answer n xs v x)) s.cells;
     live = rw s.cells (live_set l v x (record { var = (done_known n xs v x (sym s.answer ∙ e)).target }));
   }
 
-  same_cells : {q : Refusal} → r ≡ Refused q → ys ≡ xs
+  same_cells : {q : Refusal} → r ≡ Err q → ys ≡ xs
   same_cells e = s.cells ∙ ap (λ a. if_done a (set xs v x) xs) (sym s.answer ∙ e)
 
-  pub set_refused : {q : Refusal} → r ≡ Refused q → Steps (set_step v x n xs) (record { answer = q.number; place = q.place; len = n }) ys
+  pub set_refused : {q : Refusal} → r ≡ Err q → Steps (set_step v x n xs) (record { answer = number_of q.fault; place = q.place; len = n }) ys
   unfolding set_step
   set_refused e = record {
     same = ap (if_set n ys) (sym e ∙ s.answer) ∙ ap (λ zs. if_set n zs (set_answer n xs v x)) s.cells;

@@ -1,16 +1,13 @@
 -- A script of operations on union-find and its answers, so that a host can compare them: three numbers an operation, two an answer.
 -- "`UnionFind` without loops" is a part of 01's differential domain.
-use Rattle.std.specs.Prelude.{◌≡◌, List, [], ◌∷◌, ℕ, zero, suc, ◌+◌, ◌*◌, ltb, length, get_or}
+use Rattle.std.specs.Prelude.{◌≡◌, Ok, Err, List, [], ◌∷◌, ℕ, zero, suc, ◌+◌, ◌*◌, ltb, length, get_or}
 use Rattle.laws.specs.Choice.{pick, by_kind}
 use Rattle.laws.specs.Bounded.{put}
+use Rattle.laws.specs.Faults.{number_of}
 use Rattle.unionfind.specs.Cells.{capacity, found, compressed, Live}
-use Rattle.unionfind.specs.Answers.{selves, set_answer, set_cells, fresh_answer, fresh_cells}
+use Rattle.unionfind.specs.Answers.{Answer, Made, selves, set_answer, set_cells, fresh_answer, fresh_cells}
 use Rattle.unionfind.specs.declared.codes.Kind.{Kind}
 use Rattle.unionfind.specs.declared.codes.Kind.TheVariants.{Var, IntVar, FloatVar}
-use Rattle.unionfind.specs.declared.answer.Answer.{Answer}
-use Rattle.unionfind.specs.declared.answer.Answer.TheVariants.{Done, Refused}
-use Rattle.unionfind.specs.declared.answer.Made.{Made}
-use Rattle.unionfind.specs.declared.answer.Made.TheVariants as made
 use Rattle.cells_abi.specs.declared.operations.Step.{Step}
 
 -- what an operation answers, and the cells after it
@@ -25,8 +22,8 @@ stepped a p n xs = record { answer = a; place = p; len = n; cells = xs }
 
 -- fresh: the code, or 37
 abbrev pub if_made : ℕ → List ℕ → Made → Stepped
-if_made n ys (made.Code x) = stepped x 0 (n + 1) ys
-if_made n ys (made.Refused r) = stepped r.number r.place n ys
+if_made n ys (Ok x) = stepped x 0 (n + 1) ys
+if_made n ys (Err r) = stepped (number_of r.fault) r.place n ys
 
 unfoldable pub make_step : Kind → ℕ → List ℕ → Stepped
 make_step kind n xs = if_made n (fresh_cells xs n (fresh_answer n kind)) (fresh_answer n kind)
@@ -44,8 +41,8 @@ cell_step v n xs = pick (ltb v n) (stepped (get_or xs v 0) 0 n xs) (stepped 38 v
 
 -- set: 0, or 38 or 39
 abbrev pub if_set : ℕ → List ℕ → Answer → Stepped
-if_set n ys Done = stepped 0 0 n ys
-if_set n ys (Refused r) = stepped r.number r.place n ys
+if_set n ys (Ok x) = stepped 0 0 n ys
+if_set n ys (Err r) = stepped (number_of r.fault) r.place n ys
 
 unfoldable pub set_step : ℕ → ℕ → ℕ → List ℕ → Stepped
 set_step v x n xs = if_set n (set_cells n xs v x) (set_answer n xs v x)

@@ -1,8 +1,11 @@
 // One operation of a script.
+ghost use Rattle.std.specs.Prelude.{◌≡◌};
+ghost use Rattle.laws.specs.Faults.{number_of};
 ghost use Rattle.unionfind.specs.Cells.{Live};
 ghost use Rattle.cells_abi.specs.Script.{Steps, make_step, find_step, ref_step, cell_step, set_step, operation_of};
 
-use unionfind::{Answer, Kind, Made, UnionFind, find, find_ref, fresh, set};
+use laws::Fault;
+use unionfind::{Kind, UnionFind, find, find_ref, fresh, set};
 
 // What an operation answers, a code or a refusal's number; the refusal's place; how many variables are in use after it.
 #[derive(Clone, Copy)]
@@ -12,24 +15,35 @@ pub struct Step {
     pub len: u32,
 }
 
-// No variable of the script's own has this number.
-const UNKNOWN: u32 = 38;
+impl Step {
+    fn done(answer: u32, len: u32) -> Step
+        ensures { result ≡ record { answer = answer; place = 0; len = len } }
+    {
+        Step {
+            answer,
+            place: 0,
+            len,
+        }
+    }
+
+    fn refused(fault: Fault, place: u32, len: u32) -> Step
+        ensures { result ≡ record { answer = number_of fault; place = place; len = len } }
+    {
+        Step {
+            answer: fault.number(),
+            place,
+            len,
+        }
+    }
+}
 
 pub(crate) fn make(cells: &mut [u32; UnionFind::CAPACITY], n: u32, kind: Kind) -> Step
     requires { Live n cells.old }
     ensures { Steps (make_step kind n cells.old) result cells.new }
 {
     match fresh(cells, n, kind) {
-        Made::Code(x) => Step {
-            answer: x,
-            place: 0,
-            len: n + 1,
-        },
-        Made::Refused(r) => Step {
-            answer: r.number,
-            place: r.place,
-            len: n,
-        },
+        Ok(x) => Step::done(x, n + 1),
+        Err(r) => Step::refused(r.fault, r.place, n),
     }
 }
 
@@ -39,17 +53,9 @@ pub(crate) fn look(cells: &mut [u32; UnionFind::CAPACITY], n: u32, v: u32) -> St
 {
     if v < n {
         let x = find(cells, v);
-        return Step {
-            answer: x,
-            place: 0,
-            len: n,
-        };
+        return Step::done(x, n);
     }
-    Step {
-        answer: UNKNOWN,
-        place: v,
-        len: n,
-    }
+    Step::refused(Fault::UnknownVariable, v, n)
 }
 
 pub(crate) fn peek(cells: &mut [u32; UnionFind::CAPACITY], n: u32, v: u32) -> Step
@@ -58,17 +64,9 @@ pub(crate) fn peek(cells: &mut [u32; UnionFind::CAPACITY], n: u32, v: u32) -> St
 {
     if v < n {
         let x = find_ref(cells, v);
-        return Step {
-            answer: x,
-            place: 0,
-            len: n,
-        };
+        return Step::done(x, n);
     }
-    Step {
-        answer: UNKNOWN,
-        place: v,
-        len: n,
-    }
+    Step::refused(Fault::UnknownVariable, v, n)
 }
 
 // What stands in a cell, so that compression is seen.
@@ -78,17 +76,9 @@ pub(crate) fn cell(cells: &mut [u32; UnionFind::CAPACITY], n: u32, v: u32) -> St
 {
     if v < n {
         let x = cells[v as usize];
-        return Step {
-            answer: x,
-            place: 0,
-            len: n,
-        };
+        return Step::done(x, n);
     }
-    Step {
-        answer: UNKNOWN,
-        place: v,
-        len: n,
-    }
+    Step::refused(Fault::UnknownVariable, v, n)
 }
 
 pub(crate) fn store(cells: &mut [u32; UnionFind::CAPACITY], n: u32, v: u32, x: u32) -> Step
@@ -96,20 +86,12 @@ pub(crate) fn store(cells: &mut [u32; UnionFind::CAPACITY], n: u32, v: u32, x: u
     ensures { Steps (set_step v x n cells.old) result cells.new }
 {
     match set(cells, n, v, x) {
-        Answer::Done => Step {
-            answer: 0,
-            place: 0,
-            len: n,
-        },
-        Answer::Refused(r) => Step {
-            answer: r.number,
-            place: r.place,
-            len: n,
-        },
+        Ok(()) => Step::done(0, n),
+        Err(r) => Step::refused(r.fault, r.place, n),
     }
 }
 
-// The operation of that number: 0 to 2 fresh by kind, 3 find, 4 find_ref, 5 the cell itself, any other set.
+// The operation of that number, as the host writes it: 0 to 2 fresh by kind, 3 find, 4 find_ref, 5 the cell itself, any other set.
 pub(crate) fn operate(
     cells: &mut [u32; UnionFind::CAPACITY],
     n: u32,

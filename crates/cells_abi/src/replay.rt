@@ -11,7 +11,7 @@ use unionfind::UnionFind;
 fn number_at(script: &[u32], i: usize) -> u32
     ensures { result ≡ number_at script.now i }
 {
-    if i < script.len() { script[i] } else { 0 }
+    script.get(i).copied().unwrap_or(0)
 }
 
 // Writes the number x at i, if there is room.
@@ -52,9 +52,7 @@ pub fn cells_replay(script: &[u32], ops: u32, answers: &mut [u32])
     let u = UnionFind::empty();
     let mut cells = u.cells;
     let mut n = u.len;
-    let mut i: u32 = 0;
-    while i < ops {
+    for i in 0..ops {
         n = step(script, i, &mut cells, n, answers);
-        i += 1;
     }
 }

@@ -9,16 +9,17 @@ use lib.Dec.{eqb}
 use lib.ListN.{length, take}
 use lib.Seq.{get_or-take, length-take-le}
 use borrow.Author.Tests.{le-leb, ne_eqb}
+use Rattle.std.proofs.Common.{Ok}
 use Rattle.laws.proofs.Choice.{no, by_test}
 use Rattle.laws.proofs.Answers.{stands}
 use Rattle.laws.proofs.Tests.{all_same}
-use Rattle.pack.specs.Answer.{refuse, needs, passes}
+use Rattle.laws.specs.Faults.{passes}
+use Rattle.laws.specs.declared.fault.Fault.TheVariants.{TooShort, WrongStart, OverLimit, WrongLength}
+use Rattle.pack.specs.Answer.{Reading, refuse, needs}
 use Rattle.pack.specs.Counts.{in_limits, size_of}
 use Rattle.pack.specs.Header.{rpk, counts_of, header_of}
 use Rattle.pack.specs.Read.{byte_at, word_at, starts_with}
 use Rattle.pack.specs.declared.counts.Counts.{Counts}
-use Rattle.pack.specs.declared.answer.Reading.{Reading}
-use Rattle.pack.specs.declared.answer.Reading.TheVariants.{Pack}
 use Rattle.pack.proofs.HeaderLaws.{header_passed}
 use Rattle.pack.proofs.CountLaws.{limited}
 use Rattle.formed.specs.Formed.{formed_of}
@@ -36,12 +37,12 @@ short k e =
 
 -- so its length is never exact
 last_tests : (k : Counts) (n m : ℕ) → kept ≤ n → kept ≤ m
-    → needs (in_limits k) 3 (needs (eqb n (size_of k)) 4 (Pack k)) ≡ needs (in_limits k) 3 (needs (eqb m (size_of k)) 4 (Pack k))
+    → needs (in_limits k) OverLimit (needs (eqb n (size_of k)) WrongLength (Ok k)) ≡ needs (in_limits k) OverLimit (needs (eqb m (size_of k)) WrongLength (Ok k))
 unfolding needs
 last_tests k n m a b =
     by_test (in_limits k)
     (λ t. rw (ne_eqb n (size_of k) (λ e. omega (arith, short k t)), ne_eqb m (size_of k) (λ e. omega (arith, short k t))) refl)
-    (λ f. sym (no (in_limits k) (needs (eqb n (size_of k)) 4 (Pack k)) (refuse 3 0 0) f refl) ∙ no (in_limits k) (needs (eqb m (size_of k)) 4 (Pack k)) (refuse 3 0 0) f refl)
+    (λ f. sym (no (in_limits k) (needs (eqb n (size_of k)) WrongLength (Ok k)) (refuse OverLimit 0 0) f refl) ∙ no (in_limits k) (needs (eqb m (size_of k)) WrongLength (Ok k)) (refuse OverLimit 0 0) f refl)
 
 module _ (q : List ℕ) (l : kept ≤ length q) where
   byte_kept : (i : ℕ) → i < kept → byte_at (take kept q) i ≡ byte_at q i
@@ -66,7 +67,7 @@ module _ (q : List ℕ) (l : kept ≤ length q) where
   longer_same =
       let n : length (take kept q) ≡ kept = length-take-le kept q l in
       rw (counts_kept, letters_kept, byte_kept 3 (omega arith), le-leb 16 (length (take kept q)) (omega arith), le-leb 16 (length q) (omega arith))
-      (ap (λ (rest : Reading). needs true 1 (needs (starts_with q rpk) 2 (needs (eqb (byte_at q 3) 1) 2 rest))) (last_tests (counts_of q) (length (take kept q)) (length q) (omega arith) l))
+      (ap (λ (rest : Reading). needs true TooShort (needs (starts_with q rpk) WrongStart (needs (eqb (byte_at q 3) 1) WrongStart rest))) (last_tests (counts_of q) (length (take kept q)) (length q) (omega arith) l))
 
   -- and it refuses them
   pub longer_refused : passes (header_of q) ≡ false

@@ -1,61 +1,33 @@
 // The lines that the program prints.
-ghost use Rattle.std.specs.Prelude.{◌<◌};
-
 use crate::whole::Verdict;
 use laws::Refusal;
+use pack::Counts;
 use std::io;
 
-fn say(rt: &impl Print, text: &[u8]) -> io::Result<()> {
-    rt.write_all(text)
-}
-
-fn say_number(rt: &impl Print, n: u64) -> io::Result<()> {
-    print!(rt; "{n}")
-}
-
 fn say_types(rt: &impl Print) -> io::Result<()> {
-    say(rt, b"types ok\n")
+    println!(rt; "types ok")
 }
 
-fn say_roots(rt: &impl Print, roots: u32) -> io::Result<()> {
-    say(rt, b"roots ")?;
-    say_number(rt, roots as u64)?;
-    say(rt, b"\n")
+fn say_roots(rt: &impl Print, c: Counts) -> io::Result<()> {
+    let roots = c.roots;
+    println!(rt; "roots {roots}")
 }
 
 fn say_refusal(rt: &impl Print, r: Refusal) -> io::Result<()> {
-    say(rt, b"refused ")?;
-    say_number(rt, r.number as u64)?;
-    say(rt, b" ")?;
-    say_number(rt, r.place as u64)?;
-    say(rt, b" ")?;
-    say_number(rt, r.detail)?;
-    say(rt, b"\n")
+    let number = r.fault.number();
+    let place = r.place;
+    let detail = r.detail;
+    println!(rt; "refused {number} {place} {detail}")
 }
 
-fn wide(b: u8) -> u64
-    ensures { result < 256 }
-{
-    b as u64
-}
-
-fn byte_at(area: &[u8], i: usize) -> u64
-    ensures { result < 256 }
-{
-    if i < area.len() { wide(area[i]) } else { 0 }
-}
-
-// The first n numbers of the area, a blank before each.
-fn say_order(rt: &impl Print, area: &[u8], n: u32) -> io::Result<()> {
-    say(rt, b"order")?;
-    let m = n as usize;
-    let mut k = 0;
-    while k < m {
-        say(rt, b" ")?;
-        say_number(rt, byte_at(area, 2 * k) * 256 + byte_at(area, 2 * k + 1))?;
-        k += 1;
+// The numbers of the values, which the area has in two bytes each.
+fn say_order(rt: &impl Print, c: Counts, area: &[u8]) -> io::Result<()> {
+    print!(rt; "order")?;
+    for pair in area.as_chunks::<2>().0.iter().take(c.values as usize) {
+        let value = u16::from_be_bytes(*pair);
+        print!(rt; " {value}")?;
     }
-    say(rt, b"\n")
+    println!(rt; "")
 }
 
 pub(crate) fn say_verdict(rt: &impl Print, verdict: Verdict, area: &[u8]) -> io::Result<()> {
@@ -67,13 +39,13 @@ pub(crate) fn say_verdict(rt: &impl Print, verdict: Verdict, area: &[u8]) -> io:
         }
         Verdict::NoOrder(c, r) => {
             say_types(rt)?;
-            say_roots(rt, c.roots)?;
+            say_roots(rt, c)?;
             say_refusal(rt, r)
         }
         Verdict::Passed(c) => {
             say_types(rt)?;
-            say_roots(rt, c.roots)?;
-            say_order(rt, area, c.values)
+            say_roots(rt, c)?;
+            say_order(rt, c, area)
         }
     }
 }

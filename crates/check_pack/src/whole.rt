@@ -1,19 +1,18 @@
 // A pack asked all that the entries ask, its rows checked and numbered and its names put in order once: how far it comes, and the refusal where it stops.
-ghost use Rattle.std.specs.Prelude.{◌≡◌, ◌≤◌, length};
-ghost use Rattle.pack.specs.declared.answer.Reading.TheVariants.{Pack};
+ghost use Rattle.std.specs.Prelude.{◌≡◌, ◌≤◌, length, Ok};
 ghost use Rattle.formed.specs.Formed.{formed_of};
 ghost use Rattle.value_cycle.specs.Area.{Orders};
 ghost use Rattle.value_cycle.specs.Order.{order_of};
 ghost use Rattle.check_pack.specs.Whole.{whole, order_part, roots_answer, roots_part, whole_of};
 
 use entries::check_types;
-use expr::{Checked, check_root};
+use expr::check_root;
 use laws::Refusal;
 use names::{NameIndex, fill_names};
-use pack::{Counts, Reading};
+use pack::Counts;
 use structure::number_rows;
 use unionfind::UnionFind;
-use value_cycle::{Order, find_compilation_order};
+use value_cycle::find_compilation_order;
 use words::Notes;
 
 // The bytes that the longest order takes.
@@ -40,16 +39,15 @@ fn check_order(pack: &[u8], c: Counts, area: &mut [u8]) -> Verdict
     requires { Orders pack.now c area.old }
     ensures { whole result area.new ≡ order_part c (order_of pack.now c area.old) }
 {
-    let order = find_compilation_order(pack, c, area);
-    match order {
-        Order::Listed => Verdict::Passed(c),
-        Order::Refused(r) => Verdict::NoOrder(c, r),
+    match find_compilation_order(pack, c, area) {
+        Ok(()) => Verdict::Passed(c),
+        Err(r) => Verdict::NoOrder(c, r),
     }
 }
 
 // All roots of a well-formed pack, rising.
-fn check_roots(pack: &[u8], c: Counts) -> Checked
-    requires { formed_of pack.now ≡ Pack c }
+fn check_roots(pack: &[u8], c: Counts) -> Result<(), Refusal>
+    requires { formed_of pack.now ≡ Ok c }
     ensures { result ≡ roots_answer pack.now c }
 {
     let table = number_rows(pack, c);
@@ -60,10 +58,8 @@ fn check_roots(pack: &[u8], c: Counts) -> Checked
     let mut cells = UnionFind::empty().cells;
     let mut notes = Notes::empty().notes;
     let mut words = [0u8; WORDS];
-    let n = c.roots;
-    let mut i = 0;
-    while i < n {
-        let answer = check_root(
+    for i in 0..c.roots {
+        check_root(
             pack,
             c,
             &index.table,
@@ -73,28 +69,19 @@ fn check_roots(pack: &[u8], c: Counts) -> Checked
             &mut notes,
             i,
             &mut words,
-        );
-        match answer {
-            Checked::Report => {
-                i += 1;
-            }
-            Checked::Refused(r) => {
-                return Checked::Refused(r);
-            }
-        }
+        )?;
     }
-    Checked::Report
+    Ok(())
 }
 
 // What follows the types.
 fn check_rest(pack: &[u8], c: Counts, area: &mut [u8]) -> Verdict
-    requires { (formed_of pack.now ≡ Pack c) × (2048 ≤ length area.old) }
+    requires { (formed_of pack.now ≡ Ok c) × (2048 ≤ length area.old) }
     ensures { whole result area.new ≡ roots_part pack.now c area.old }
 {
-    let roots = check_roots(pack, c);
-    match roots {
-        Checked::Report => check_order(pack, c, area),
-        Checked::Refused(r) => Verdict::NoRoot(r),
+    match check_roots(pack, c) {
+        Ok(()) => check_order(pack, c, area),
+        Err(r) => Verdict::NoRoot(r),
     }
 }
 
@@ -102,9 +89,8 @@ pub fn check_whole(pack: &[u8], area: &mut [u8]) -> Verdict
     requires { 2048 ≤ length area.old }
     ensures { whole result area.new ≡ whole_of pack.now area.old }
 {
-    let types = check_types(pack);
-    match types {
-        Reading::Pack(c) => check_rest(pack, c, area),
-        Reading::Refused(r) => Verdict::NoTypes(r),
+    match check_types(pack) {
+        Ok(c) => check_rest(pack, c, area),
+        Err(r) => Verdict::NoTypes(r),
     }
 }

@@ -9,6 +9,8 @@ use native.Mathlib.Omega.{arith}
 use lib.Dec.{leb}
 use lib.ListN.{length, get_or}
 use borrow.Author.Tests.{eq-eqb, eqb-true, le-leb, leb-true}
+use Rattle.laws.specs.declared.fault.Fault.{Fault}
+use Rattle.laws.specs.declared.fault.Fault.TheVariants.{ReferencesItself, OnLongerCycle, ReachesContext}
 use Rattle.laws.proofs.First.{Until, until_is}
 use Rattle.laws.proofs.Members.{in_at, at_in, by_le}
 use Rattle.components.specs.Account.{Uses, Lists, Orderable, Refuses, is₅₀, is₅₁, is₅₂, Says}
@@ -120,16 +122,16 @@ module _ (kind : ℕ → ℕ) (refs : ℕ → List ℕ) (n : ℕ) (fits : Fits r
       (λ h. says₅₁ h (λ u l z. no_self u (until₅₀.right u (omega arith) (omega arith)) z))
       (λ l. let w = self_edge (first₅₀ kind refs n) (until₅₀.wrong l) in subst (Says kind refs n) (cases.is₅₀ kind refs n l) (is₅₀ l w.0 w.1 (λ u h z. no_self u (until₅₀.right u (omega arith) h) z)))
 
-  pub refuses_not : (number place : ℕ) → Refuses kind refs n number place → Orderable kind refs n → ⊥
-  refuses_not number place (is₅₀ l z e u) o = (o place l z).0 (one e)
-  refuses_not number place (is₅₁ ne ys ok d l q z w u) o = (o place (rw q (ok.only (get_or ys d 0) (in_at ys d (omega (arith, long ys ok))))) z).0 w
+  pub refuses_not : (fault : Fault) (place : ℕ) → Refuses kind refs n fault place → Orderable kind refs n → ⊥
+  refuses_not fault place (is₅₀ l z e u) o = (o place l z).0 (one e)
+  refuses_not fault place (is₅₁ ne ys ok d l q z w u) o = (o place (rw q (ok.only (get_or ys d 0) (in_at ys d (omega (arith, long ys ok))))) z).0 w
     where
       long : (ys : List ℕ) → Lists kind refs n ys → length ys ≡ n
       long ys ok = full n ys ok.once ok.only
-  refuses_not number place (is₅₂ nl l z t u) o = (o place l z).1 t
+  refuses_not fault place (is₅₂ nl l z t u) o = (o place l z).1 t
 
   -- an answer is the listing or a refusal
-  shape : (answer kind refs n ≡ listed (order kind refs n)) ⊎ ((number : ℕ) × (place : ℕ) × (answer kind refs n ≡ refused number place))
+  shape : (answer kind refs n ≡ listed (order kind refs n)) ⊎ ((fault : Fault) × (place : ℕ) × (answer kind refs n ≡ refused fault place))
   shape =
       by_le n (first₅₀ kind refs n)
       (λ h₀.
@@ -137,9 +139,9 @@ module _ (kind : ℕ → ℕ) (refs : ℕ → List ℕ) (n : ℕ) (fits : Fits r
       (λ h₁.
       by_le n (first₅₂ kind refs n)
       (λ h. inl (sym (is_listed kind refs n h₀ h₁ h)))
-      (λ l. inr (52, first₅₂ kind refs n, sym (cases.is₅₂ kind refs n h₀ h₁ l))))
-      (λ l. inr (51, get_or xs (first₅₁ kind refs n) 0, sym (cases.is₅₁ kind refs n h₀ l))))
-      (λ l. inr (50, first₅₀ kind refs n, sym (cases.is₅₀ kind refs n l)))
+      (λ l. inr (ReachesContext, first₅₂ kind refs n, sym (cases.is₅₂ kind refs n h₀ h₁ l))))
+      (λ l. inr (OnLongerCycle, get_or xs (first₅₁ kind refs n) 0, sym (cases.is₅₁ kind refs n h₀ l))))
+      (λ l. inr (ReferencesItself, first₅₀ kind refs n, sym (cases.is₅₀ kind refs n l)))
 
   -- ordering succeeds exactly if no constant has a walk to itself and none has a walk to a context value
   pub succeeds : (answer kind refs n ≡ listed (order kind refs n)) ↔ Orderable kind refs n

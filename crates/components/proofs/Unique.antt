@@ -6,6 +6,8 @@ use mathlib.Core.List.{List, [], ◌∷◌, Memᴰ}
 use Prim.Native.Nat.{ℕ, ◌<◌}
 use native.Mathlib.Omega.{arith}
 use lib.ListN.{get_or}
+use Rattle.laws.specs.declared.fault.Fault.{Fault}
+use Rattle.laws.specs.declared.fault.Fault.TheVariants.{ReferencesItself, OnLongerCycle, ReachesContext}
 use Rattle.laws.specs.Lists.{count, In}
 use Rattle.laws.proofs.Lists.{count_append, in_append, in_cons}
 use Rattle.laws.proofs.Members.{in_self, in_subst, in_at, by_le}
@@ -115,26 +117,26 @@ module _ (kind : ℕ → ℕ) (refs : ℕ → List ℕ) (n : ℕ) (fits : Fits r
   abbrev NoLoop : Type 0
   NoLoop = (u : ℕ) → u < n → kind u ≡ 0 → ¬ Walk refs u u
 
-  same₅₀ : (v : ℕ) → v < n → kind v ≡ 0 → Edge refs v v → ((u : ℕ) → u < v → kind u ≡ 0 → ¬ Edge refs u u) → {j w : ℕ} → Refuses kind refs n j w → ◌≡◌ {A = Answer} (refused 50 v) (refused j w)
-  same₅₀ v l z e m (is₅₀ {v = w} l' z' e' m') = ap (refused 50) (one_smallest (λ u. (kind u ≡ 0) × Edge refs u u) v w (z, e) (z', e') (λ u h p. m u h p.0 p.1) (λ u h p. m' u h p.0 p.1))
+  same₅₀ : (v : ℕ) → v < n → kind v ≡ 0 → Edge refs v v → ((u : ℕ) → u < v → kind u ≡ 0 → ¬ Edge refs u u) → {j : Fault} {w : ℕ} → Refuses kind refs n j w → ◌≡◌ {A = Answer} (refused ReferencesItself v) (refused j w)
+  same₅₀ v l z e m (is₅₀ {v = w} l' z' e' m') = ap (refused ReferencesItself) (one_smallest (λ u. (kind u ≡ 0) × Edge refs u u) v w (z, e) (z', e') (λ u h p. m u h p.0 p.1) (λ u h p. m' u h p.0 p.1))
   same₅₀ v l z e m (is₅₁ ne ys ok d b q z' w m') = absurd (ne v l z e)
   same₅₀ v l z e m (is₅₂ nl l' z' u m') = absurd (nl v l z (one e))
 
-  same₅₁ : {v : ℕ} → NoSelf → (xs : List ℕ) → Lists kind refs n xs → (d : ℕ) → d < n → v ≡ get_or xs d 0 → kind v ≡ 0 → Walk refs v v → ((e : ℕ) → e < d → LoopAt xs e → ⊥) → {j w : ℕ} → Refuses kind refs n j w → ◌≡◌ {A = Answer} (refused 51 v) (refused j w)
+  same₅₁ : {v : ℕ} → NoSelf → (xs : List ℕ) → Lists kind refs n xs → (d : ℕ) → d < n → v ≡ get_or xs d 0 → kind v ≡ 0 → Walk refs v v → ((e : ℕ) → e < d → LoopAt xs e → ⊥) → {j : Fault} {w : ℕ} → Refuses kind refs n j w → ◌≡◌ {A = Answer} (refused OnLongerCycle v) (refused j w)
   same₅₁ ne xs ok d b q z k m (is₅₀ {v = w} l' z' e' m') = absurd (ne w l' z' e')
   same₅₁ {v} ne xs ok d b q z k m (is₅₁ {v = w} ne' ys ok' d' b' q' z' k' m') =
       let s : ys ≡ xs = one_listing ok' ok in
       let p' : LoopAt ys d' = (ap kind (sym q') ∙ z', subst (λ (u : ℕ). Walk refs u u) q' k') in
       let e : d ≡ d' = one_smallest (LoopAt xs) d d' (ap kind (sym q) ∙ z, subst (λ (u : ℕ). Walk refs u u) q k) (subst (λ (l : List ℕ). LoopAt l d') s p') m (λ u h p. let r = subst (λ (l : List ℕ). LoopAt l u) (sym s) p in m' u h r.0 r.1) in
-      ap (refused 51) (q ∙ ap (λ (i : ℕ). get_or xs i 0) e ∙ ap (λ (l : List ℕ). get_or l d' 0) (sym s) ∙ sym q')
+      ap (refused OnLongerCycle) (q ∙ ap (λ (i : ℕ). get_or xs i 0) e ∙ ap (λ (l : List ℕ). get_or l d' 0) (sym s) ∙ sym q')
   same₅₁ {v} ne xs ok d b q z k m (is₅₂ nl l' z' u m') = absurd (nl v (rw q (at_value ok d b)) z k)
 
-  same₅₂ : (v : ℕ) → NoLoop → v < n → kind v ≡ 0 → Uses kind refs n v → ((u : ℕ) → u < v → kind u ≡ 0 → ¬ Uses kind refs n u) → {j w : ℕ} → Refuses kind refs n j w → ◌≡◌ {A = Answer} (refused 52 v) (refused j w)
+  same₅₂ : (v : ℕ) → NoLoop → v < n → kind v ≡ 0 → Uses kind refs n v → ((u : ℕ) → u < v → kind u ≡ 0 → ¬ Uses kind refs n u) → {j : Fault} {w : ℕ} → Refuses kind refs n j w → ◌≡◌ {A = Answer} (refused ReachesContext v) (refused j w)
   same₅₂ v nl l z u m (is₅₀ {v = w} l' z' e' m') = absurd (nl w l' z' (one e'))
   same₅₂ v nl l z u m (is₅₁ {v = w} ne ys ok d b q z' k m') = absurd (nl w (rw q (at_value ok d b)) z' k)
-  same₅₂ v nl l z u m (is₅₂ {v = w} nl' l' z' u' m') = ap (refused 52) (one_smallest (λ i. (kind i ≡ 0) × Uses kind refs n i) v w (z, u) (z', u') (λ i h p. m i h p.0 p.1) (λ i h p. m' i h p.0 p.1))
+  same₅₂ v nl l z u m (is₅₂ {v = w} nl' l' z' u' m') = ap (refused ReachesContext) (one_smallest (λ i. (kind i ≡ 0) × Uses kind refs n i) v w (z, u) (z', u') (λ i h p. m i h p.0 p.1) (λ i h p. m' i h p.0 p.1))
 
-  pub one_refusal : {k v j w : ℕ} → Refuses kind refs n k v → Refuses kind refs n j w → ◌≡◌ {A = Answer} (refused k v) (refused j w)
+  pub one_refusal : {k : Fault} {v : ℕ} {j : Fault} {w : ℕ} → Refuses kind refs n k v → Refuses kind refs n j w → ◌≡◌ {A = Answer} (refused k v) (refused j w)
   one_refusal (is₅₀ {v} l z e m) r = same₅₀ v l z e m r
   one_refusal (is₅₁ ne xs ok d b q z k m) r = same₅₁ ne xs ok d b q z k (λ e h p. m e h p.0 p.1) r
   one_refusal (is₅₂ {v} nl l z u m) r = same₅₂ v nl l z u m r

@@ -1,6 +1,8 @@
 -- What an answer has to say, in terms of walks alone: the account that the search is held to.
 use Rattle.std.specs.Prelude.{◌≡◌, ◌↔◌, ℕ, ◌<◌, get_or}
 use mathlib.Core.List.{List, Memᴰ}
+use Rattle.laws.specs.declared.fault.Fault.{Fault}
+use Rattle.laws.specs.declared.fault.Fault.TheVariants.{ReferencesItself, OnLongerCycle, ReachesContext}
 use Rattle.laws.specs.Lists.{count, In}
 use Rattle.components.specs.Answers.{Answer, listed, refused}
 use Rattle.components.specs.DepthFirst.{depth_first}
@@ -36,14 +38,14 @@ module _ (kind : ℕ → ℕ) (refs : ℕ → List ℕ) (n : ℕ) where
   abbrev pub Orderable : Type 0
   Orderable = (v : ℕ) → v < n → kind v ≡ 0 → (¬ Walk refs v v) × (¬ Uses v)
 
-  pub data Refuses : ℕ → ℕ → Type 0 where
+  pub data Refuses : Fault → ℕ → Type 0 where
     -- 50 at the smallest constant that lists itself
-    is₅₀ : {v : ℕ} → v < n → kind v ≡ 0 → Edge refs v v → ((u : ℕ) → u < v → kind u ≡ 0 → ¬ Edge refs u u) → Refuses 50 v
+    is₅₀ : {v : ℕ} → v < n → kind v ≡ 0 → Edge refs v v → ((u : ℕ) → u < v → kind u ≡ 0 → ¬ Edge refs u u) → Refuses ReferencesItself v
     -- else 51 at the first listed constant that has a walk to itself
-    is₅₁ : {v : ℕ} → ((u : ℕ) → u < n → kind u ≡ 0 → ¬ Edge refs u u) → (xs : List ℕ) → Lists xs → (d : ℕ) → d < n → v ≡ get_or xs d 0 → kind v ≡ 0 → Walk refs v v → ((e : ℕ) → e < d → kind (get_or xs e 0) ≡ 0 → ¬ Walk refs (get_or xs e 0) (get_or xs e 0)) → Refuses 51 v
+    is₅₁ : {v : ℕ} → ((u : ℕ) → u < n → kind u ≡ 0 → ¬ Edge refs u u) → (xs : List ℕ) → Lists xs → (d : ℕ) → d < n → v ≡ get_or xs d 0 → kind v ≡ 0 → Walk refs v v → ((e : ℕ) → e < d → kind (get_or xs e 0) ≡ 0 → ¬ Walk refs (get_or xs e 0) (get_or xs e 0)) → Refuses OnLongerCycle v
     -- else 52 at the smallest constant that has a walk to a context value
-    is₅₂ : {v : ℕ} → ((u : ℕ) → u < n → kind u ≡ 0 → ¬ Walk refs u u) → v < n → kind v ≡ 0 → Uses v → ((u : ℕ) → u < v → kind u ≡ 0 → ¬ Uses u) → Refuses 52 v
+    is₅₂ : {v : ℕ} → ((u : ℕ) → u < n → kind u ≡ 0 → ¬ Walk refs u u) → v < n → kind v ≡ 0 → Uses v → ((u : ℕ) → u < v → kind u ≡ 0 → ¬ Uses u) → Refuses ReachesContext v
 
   abbrev pub Says : Answer → Type 0
   Says (listed xs) = Lists xs × Orderable
-  Says (refused number place) = Refuses number place
+  Says (refused fault place) = Refuses fault place

@@ -1,16 +1,18 @@
 -- "5. Order": refusals 50, 51 and 52, or the listing.
 use Rattle.std.specs.Prelude.{Bool, false, ◌&&◌, ◌||◌, List, [], ◌∷◌, ℕ, zero, suc, eqb, ltb, leb, length, get_or}
 use Rattle.std.proofs.Math.Bool.{not}
+use Rattle.laws.specs.declared.fault.Fault.{Fault}
+use Rattle.laws.specs.declared.fault.Fault.TheVariants.{ReferencesItself, OnLongerCycle, ReachesContext}
 use Rattle.laws.specs.Choice.{pick}
 use Rattle.laws.specs.First.{until}
 use Rattle.laws.specs.Lists.{count}
 use Rattle.components.specs.DepthFirst.{reached}
 use Rattle.components.specs.Tarjan.{tarjan, listing}
 
--- the listing, or a refusal's number and place
+-- the listing, or a refusal's fault and place
 pub data Answer : Type 0 where
   listed : List ℕ → Answer
-  refused : ℕ → ℕ → Answer
+  refused : Fault → ℕ → Answer
 
 -- y stands in a list
 abbrev pub has : ℕ → List ℕ → Bool
@@ -72,7 +74,7 @@ module _ (kind : ℕ → ℕ) (refs : ℕ → List ℕ) (n : ℕ) where
   unfoldable pub answer : Answer
   unfolding first₅₀ first₅₁ first₅₂
   answer =
-      pick (ltb first₅₀ n) (refused 50 first₅₀)
-      (pick (ltb first₅₁ n) (refused 51 (get_or order first₅₁ 0))
-      (pick (ltb first₅₂ n) (refused 52 first₅₂)
+      pick (ltb first₅₀ n) (refused ReferencesItself first₅₀)
+      (pick (ltb first₅₁ n) (refused OnLongerCycle (get_or order first₅₁ 0))
+      (pick (ltb first₅₂ n) (refused ReachesContext first₅₂)
       (listed order)))

@@ -1,57 +1,53 @@
 -- Which refusal numbers module 4 can give: one law a way of putting a rule together, then one line a rule.
 -- Assumes nothing.
 use Prim.Native.Nat.{ℕ, zero, suc, ◌+◌, ◌*◌}
-use mathlib.Core.Path.{◌≡◌, refl}
+use mathlib.Core.Path.{◌≡◌, refl, subst}
 use mathlib.Core.Bool.{Bool, true, false}
 use mathlib.Core.List.{List, ◌∷◌}
 use native.Mathlib.Omega.{arith}
 use lib.Dec.{eqb, lit≤}
-use borrow.Author.Tests.{eqb-false}
 use Rattle.laws.specs.Choice.{pick, letting, by_kind}
 use Rattle.laws.specs.Lists.{In}
-use Rattle.laws.proofs.Lists.{count_other}
 use Rattle.pack.specs.Lists.{list_item}
 use Rattle.pack.specs.Rows.{definition_row}
 use Rattle.pack.specs.declared.counts.Counts.{Counts}
 use Rattle.pack.specs.declared.rows.ExpressionRow.{ExpressionRow}
-use Rattle.unionfind.specs.Answers.{full, set_answer, fresh_answer}
+use Rattle.unionfind.specs.Answers.{Answer, Made, full, set_answer, fresh_answer}
 use Rattle.unionfind.specs.declared.codes.Kind.{Kind}
-use Rattle.unionfind.specs.declared.answer.Made.{Made}
-use Rattle.unionfind.specs.declared.answer.Made.TheVariants as made
-use Rattle.unionfind.specs.declared.answer.Answer.{Answer}
 use Rattle.unify.specs.Unify.{answer_to, both_settled, plan_for, unify_answer}
 use Rattle.unify.specs.declared.plan.Plan.{Plan}
 use Rattle.unify.specs.declared.plan.Plan.TheVariants as plan
-use Rattle.operators.specs.Operators.{compared, number, added, divided, remainder, power, operator_plan}
+use Rattle.operators.specs.Operators.{operator_plan, Plan as Decided}
+use Rattle.operators.proofs.Plans.{plan_all}
 use Rattle.operators.specs.declared.plan.OperatorPlan.{OperatorPlan}
-use Rattle.members.specs.Places.{perhaps}
+use Rattle.std.proofs.Common.{Option, Some, None, option_map, unwrap_or}
 use Rattle.members.specs.Types.{named_by, is_list}
-use Rattle.members.specs.Field.{field_in, field_of_definition, field_of_type, accessed_by}
-use Rattle.members.specs.declared.answer.Accessed.{Accessed}
-use Rattle.members.specs.declared.answer.Accessed.TheVariants as accessed
+use Rattle.members.specs.Field.{Accessed, field_in, field_of_definition, field_of_type, accessed_by}
 use Rattle.arms.specs.Match.{subject_of, payload_fault, arm_fault}
 use Rattle.arms.specs.declared.answer.Subject.{Subject}
 use Rattle.arms.specs.declared.answer.Subject.TheVariants as subject
 use Rattle.records.specs.Record.{counted_fault, fields_fault, record_fault}
-use Rattle.records.specs.declared.answer.Fault.{Fault}
-use Rattle.expr.specs.State.{Env, State, Ans, Typing, done, refuse_with, cont, ◌then◌, cont_with, ◌gives◌, resolving, typed_made, fresh_type, step_for, unify_step}
+use Rattle.records.specs.declared.answer.RecordFault.{RecordFault}
+use Rattle.laws.specs.declared.fault.Fault.{Fault}
+use Rattle.laws.specs.declared.fault.Fault.TheVariants.{ExamineeDiverges, NotAnEnum, ArmAfterAny, NotExhaustive, SlotNotOpen, SlotBoundBefore, HoldsVariable, NotPlain, TooDeep, StrayLet}
+use Rattle.laws.specs.Faults.{number_of}
+use Rattle.expr.proofs.Unmarked.{chosen}
+use Rattle.expr.proofs.Decided.{by_found, by_decided}
+use Rattle.expr.specs.State.{Env, State, Ans, Typing, done, refuse_with, cont, ◌then◌, cont_with, ◌gives◌, resolving, typed_made, fresh_type, step_for, unify_step, Step, Typed}
 use Rattle.expr.specs.Rules.{Run, bare_rule, literal_rule, slot_rule, let_type, let_rule, stmt_rule, stmts_rule, last_rule, block_rule, bool_first, operand_type, result_last, right_rule, operator_rule, guard_rule, body_rule, arm_rule, arms_rule, cases_rule, subject_rule, match_rule, fields_rule, record_rule, field_type_rule, accessed_rule, field_rule, returned_rule, return_rule, kind_rule, node_rule, expr_rule}
 use Rattle.expr.specs.Root.{root_rule}
 use Rattle.expr.specs.declared.answer.Outcome.{Outcome}
-use Rattle.expr.specs.declared.answer.Step.{Step}
-use Rattle.expr.specs.declared.answer.Step.TheVariants.{Done, Refused}
-use Rattle.expr.specs.declared.answer.Typed.{Typed}
-use Rattle.expr.specs.declared.answer.Typed.TheVariants as typed
 use Rattle.entries.specs.Numbers.{of_rules}
+use Rattle.std.proofs.Common.{Ok, Err}
 
 -- a refusal has one of these numbers
 abbrev pub Fine : Step → Type 0
-Fine (Done o) = Unit {0}
-Fine (Refused r) = In r.number of_rules
+Fine (Ok o) = Unit {0}
+Fine (Err r) = In (number_of r.fault) of_rules
 
 abbrev FineType : Typed → Type 0
-FineType (typed.Type x vars) = Unit {0}
-FineType (typed.Refused r) = In r.number of_rules
+FineType (Ok t) = Unit {0}
+FineType (Err r) = In (number_of r.fault) of_rules
 
 pub record Gives (a : Ans) : Type 0 where
   pub inside : Fine a.step
@@ -64,20 +60,20 @@ record GivesType (a : Typing) : Type 0 where
 of_done : (d : Bool) (call vars : ℕ) (s : State) → Gives (done d call vars s)
 of_done d call vars s = record { inside = tt }
 
-of_refusal : (number place detail : ℕ) (s : State) → In number of_rules → Gives (refuse_with number place detail s)
-of_refusal number place detail s h = record { inside = h }
+of_refusal : (fault : Fault) (place detail : ℕ) (s : State) → In (number_of fault) of_rules → Gives (refuse_with fault place detail s)
+of_refusal fault place detail s h = record { inside = h }
 
 of_cont : (t : Step) (s : State) (k : Outcome → State → Ans) → Fine t → ((o : Outcome) (s : State) → Gives (k o s)) → Gives (cont t s k)
-of_cont (Done o) s k h f = f o s
-of_cont (Refused r) s k h f = record { inside = h }
+of_cont (Ok o) s k h f = f o s
+of_cont (Err r) s k h f = record { inside = h }
 
 of_then : (a : Ans) (k : Outcome → State → Ans) → Gives a → ((o : Outcome) (s : State) → Gives (k o s)) → Gives (a then k)
 unfolding ◌then◌
 of_then a k g f = of_cont a.step a.st k g.inside f
 
 of_cont_with : (t : Typed) (s : State) (k : ℕ → ℕ → State → Ans) → FineType t → ((x vars : ℕ) (s : State) → Gives (k x vars s)) → Gives (cont_with t s k)
-of_cont_with (typed.Type x vars) s k h f = f x vars s
-of_cont_with (typed.Refused r) s k h f = record { inside = h }
+of_cont_with (Ok t) s k h f = f t.code t.vars s
+of_cont_with (Err r) s k h f = record { inside = h }
 
 of_gives : (a : Typing) (k : ℕ → ℕ → State → Ans) → GivesType a → ((x vars : ℕ) (s : State) → Gives (k x vars s)) → Gives (a gives k)
 unfolding ◌gives◌
@@ -96,16 +92,6 @@ of_letting : {A : Type 0} (a : A) (k : A → Ans) → Gives (k a) → Gives (let
 unfolding letting
 of_letting a k g = g
 
--- ---- numbers of faults, 0 for none
-
-picked : (b : Bool) (x y : ℕ) → In x (0 ∷ of_rules) → In y (0 ∷ of_rules) → In (pick b x y) (0 ∷ of_rules)
-unfolding pick
-picked true x y g h = g
-picked false x y g h = h
-
-some : (n : ℕ) → eqb n 0 ≡ false → In n (0 ∷ of_rules) → In n of_rules
-some n f h = omega (arith, count_other n 0 of_rules (eqb-false n 0 f))
-
 -- ---- the layers below
 
 made_fine : (vars : ℕ) (b : Bool) (m : Made) → FineType (typed_made vars m) → FineType (typed_made vars (pick b m full))
@@ -115,7 +101,7 @@ made_fine vars false m h = lit≤ tt
 
 of_fresh : (kind : Kind) (vars : ℕ) (s : State) → GivesType (fresh_type kind vars s)
 unfolding fresh_type fresh_answer
-of_fresh kind vars s = record { inside = made_fine vars _ (made.Code _) tt }
+of_fresh kind vars s = record { inside = made_fine vars _ (Ok _) tt }
 
 answer_pick : (vars : ℕ) (b : Bool) (x y : Answer) → Fine (step_for vars x) → Fine (step_for vars y) → Fine (step_for vars (pick b x y))
 unfolding pick
@@ -137,75 +123,54 @@ of_unify marks at left right vars s = record { inside = answer_fine vars vars (b
 
 -- ---- plans, arms, records and fields
 
-plan_pick : (b : Bool) (x y : OperatorPlan) → In x.number (0 ∷ of_rules) → In y.number (0 ∷ of_rules) → In (pick b x y).number (0 ∷ of_rules)
-unfolding pick
-plan_pick true x y g h = g
-plan_pick false x y g h = h
+abbrev FineFound : Option Fault → Type 0
+FineFound None = Unit {0}
+FineFound (Some fault) = In (number_of fault) of_rules
 
-number_plan_lem : (left own : ℕ) → In (number left own).number (0 ∷ of_rules)
-unfolding number
-number_plan_lem left own = plan_pick _ _ _ (lit≤ tt) (lit≤ tt)
+abbrev FineRecord : Option RecordFault → Type 0
+FineRecord None = Unit {0}
+FineRecord (Some f) = In (number_of f.fault) of_rules
 
-power_plan : (left own : ℕ) → In (power left own).number (0 ∷ of_rules)
-unfolding power
-power_plan left own = plan_pick _ _ _ (lit≤ tt) (number_plan_lem left own)
+abbrev FinePlan : Decided → Type 0
+FinePlan (Ok plan) = Unit {0}
+FinePlan (Err fault) = In (number_of fault) of_rules
 
-compared_plan : (left own : ℕ) → In (compared left own).number (0 ∷ of_rules)
-unfolding compared
-compared_plan left own = plan_pick _ _ _ (lit≤ tt) (lit≤ tt)
+plan_fine : (op own left : ℕ) (list : Bool) → FinePlan (operator_plan op own left list)
+plan_fine op own left list =
+    plan_all FinePlan own
+    (record {
+      truths = tt;
+      test = tt;
+      same = tt;
+      append = tt;
+      concat = tt;
+      prefix = tt;
+      raise = tt;
+      no_number = lit≤ tt;
+      no_integer = lit≤ tt;
+    })
+    left op list
 
-added_plan : (left : ℕ) (list : Bool) (own : ℕ) → In (added left list own).number (0 ∷ of_rules)
-unfolding added
-added_plan left list own = plan_pick _ _ _ (lit≤ tt) (plan_pick _ _ _ (lit≤ tt) (number_plan_lem left own))
-
-divided_plan : (left own : ℕ) → In (divided left own).number (0 ∷ of_rules)
-unfolding divided
-divided_plan left own = plan_pick _ _ _ (lit≤ tt) (number_plan_lem left own)
-
-remainder_plan : (left own : ℕ) → In (remainder left own).number (0 ∷ of_rules)
-unfolding remainder
-remainder_plan left own = plan_pick _ _ _ (lit≤ tt) (lit≤ tt)
-
-operator_plan_lem : (op own left : ℕ) (list : Bool) → In (operator_plan op own left list).number (0 ∷ of_rules)
-unfolding operator_plan by_kind
-operator_plan_lem zero own left list = lit≤ tt
-operator_plan_lem (suc zero) own left list = lit≤ tt
-operator_plan_lem (suc (suc zero)) own left list = compared_plan left own
-operator_plan_lem (suc (suc (suc zero))) own left list = compared_plan left own
-operator_plan_lem (suc (suc (suc (suc zero)))) own left list = compared_plan left own
-operator_plan_lem (suc (suc (suc (suc (suc zero))))) own left list = compared_plan left own
-operator_plan_lem (suc (suc (suc (suc (suc (suc zero)))))) own left list = lit≤ tt
-operator_plan_lem (suc (suc (suc (suc (suc (suc (suc zero))))))) own left list = lit≤ tt
-operator_plan_lem (suc (suc (suc (suc (suc (suc (suc (suc zero)))))))) own left list = added_plan left list own
-operator_plan_lem (suc (suc (suc (suc (suc (suc (suc (suc (suc zero))))))))) own left list = number_plan_lem left own
-operator_plan_lem (suc (suc (suc (suc (suc (suc (suc (suc (suc (suc zero)))))))))) own left list = number_plan_lem left own
-operator_plan_lem (suc (suc (suc (suc (suc (suc (suc (suc (suc (suc (suc zero))))))))))) own left list = divided_plan left own
-operator_plan_lem (suc (suc (suc (suc (suc (suc (suc (suc (suc (suc (suc (suc zero)))))))))))) own left list = remainder_plan left own
-operator_plan_lem (suc (suc (suc (suc (suc (suc (suc (suc (suc (suc (suc (suc (suc zero))))))))))))) own left list = power_plan left own
-operator_plan_lem (suc (suc (suc (suc (suc (suc (suc (suc (suc (suc (suc (suc (suc (suc op)))))))))))))) own left list = power_plan left own
-
-payload_fault_lem : (p : List ℕ) (c : Counts) (marks : List ℕ) (fields payload : ℕ) → In (payload_fault p c marks fields payload) (0 ∷ of_rules)
+payload_fine : (p : List ℕ) (c : Counts) (marks : List ℕ) (fields payload : ℕ) → FineFound (payload_fault p c marks fields payload)
 unfolding payload_fault
-payload_fault_lem p c marks fields zero = picked _ 0 28 (lit≤ tt) (lit≤ tt)
-payload_fault_lem p c marks fields (suc l) = picked _ 27 _ (lit≤ tt) (picked _ _ 29 (picked _ 35 0 (lit≤ tt) (lit≤ tt)) (lit≤ tt))
+payload_fine p c marks fields zero = chosen FineFound _ (λ t. tt) (λ f. lit≤ tt)
+payload_fine p c marks fields (suc l) = chosen FineFound _ (λ t. lit≤ tt) (λ f. chosen FineFound _ (λ t. chosen FineFound _ (λ t. lit≤ tt) (λ f. tt)) (λ f. lit≤ tt))
 
-arm_fault_lem : (p : List ℕ) (c : Counts) (marks : List ℕ) (list name payload : ℕ) → In (arm_fault p c marks list name payload) (0 ∷ of_rules)
+arm_fine : (p : List ℕ) (c : Counts) (marks : List ℕ) (list name payload : ℕ) → FineFound (arm_fault p c marks list name payload)
 unfolding arm_fault
-arm_fault_lem p c marks list name payload = picked _ 0 _ (lit≤ tt) (picked _ _ 26 (payload_fault_lem p c marks _ payload) (lit≤ tt))
+arm_fine p c marks list name payload = chosen FineFound _ (λ t. tt) (λ f. chosen FineFound _ (λ t. payload_fine p c marks _ payload) (λ f. lit≤ tt))
 
-fault_pick : (b : Bool) (x y : Fault) → In x.number (0 ∷ of_rules) → In y.number (0 ∷ of_rules) → In (pick b x y).number (0 ∷ of_rules)
-unfolding pick
-fault_pick true x y g h = g
-fault_pick false x y g h = h
-
-record_fault_lem : (p : List ℕ) (c : Counts) (marks : List ℕ) (d fields : ℕ) → In (record_fault p c marks d fields).number (0 ∷ of_rules)
+record_fine : (p : List ℕ) (c : Counts) (marks : List ℕ) (d fields : ℕ) → FineRecord (record_fault p c marks d fields)
 unfolding record_fault fields_fault counted_fault
-record_fault_lem p c marks d fields = fault_pick _ _ _ (fault_pick _ _ _ (picked _ 35 0 (lit≤ tt) (lit≤ tt)) (lit≤ tt)) (lit≤ tt)
+record_fine p c marks d fields =
+    chosen FineRecord _
+    (λ t. chosen FineRecord _ (λ t. chosen FineRecord _ (λ t. lit≤ tt) (λ f. tt)) (λ f. lit≤ tt))
+    (λ f. lit≤ tt)
 
 -- the number of a field that can't be taken
 abbrev FineAccess : Accessed → Type 0
-FineAccess (accessed.Type t) = Unit {0}
-FineAccess (accessed.Fault number) = In number of_rules
+FineAccess (Ok t) = Unit {0}
+FineAccess (Err fault) = In (number_of fault) of_rules
 
 access_pick : (b : Bool) (x y : Accessed) → FineAccess x → FineAccess y → FineAccess (pick b x y)
 unfolding pick
@@ -216,10 +181,10 @@ field_in_lem : (p : List ℕ) (c : Counts) (marks : List ℕ) (list name : ℕ) 
 unfolding field_in
 field_in_lem p c marks list name = access_pick _ _ _ (access_pick _ _ _ (lit≤ tt) tt) (lit≤ tt)
 
-accessed_fine : (p : List ℕ) (c : Counts) (marks : List ℕ) (x name named : ℕ) → FineAccess (perhaps (field_of_type p c marks name x) (λ d. field_of_definition p c marks name (definition_row p c d)) named)
+accessed_fine : (p : List ℕ) (c : Counts) (marks : List ℕ) (x name : ℕ) (named : Option ℕ) → FineAccess (unwrap_or (option_map (λ d. field_of_definition p c marks name (definition_row p c d)) named) (field_of_type p c marks name x))
 unfolding field_of_type field_of_definition
-accessed_fine p c marks x name zero = access_pick _ _ _ (field_in_lem p c marks _ name) (lit≤ tt)
-accessed_fine p c marks x name (suc d) = access_pick _ _ _ (access_pick _ _ _ (field_in_lem p c marks _ name) (lit≤ tt)) (lit≤ tt)
+accessed_fine p c marks x name None = access_pick _ _ _ (field_in_lem p c marks _ name) (lit≤ tt)
+accessed_fine p c marks x name (Some d) = access_pick _ _ _ (access_pick _ _ _ (field_in_lem p c marks _ name) (lit≤ tt)) (lit≤ tt)
 
 access_fine : (p : List ℕ) (c : Counts) (marks : List ℕ) (x name : ℕ) → FineAccess (accessed_by p c marks x name)
 unfolding accessed_by
@@ -238,7 +203,7 @@ module _ (run : Run) (parts : (id want vars : ℕ) (s : State) → Gives (run id
 
   of_slot : (marks : List ℕ) (id : ℕ) (n : ExpressionRow) (want vars : ℕ) (s : State) → Gives (slot_rule marks id n want vars s)
   unfolding slot_rule
-  of_slot marks id n want vars s = of_letting _ _ (of_pick _ _ _ (of_unify marks id want _ vars s) (λ f. of_refusal 33 id 0 s (lit≤ tt)))
+  of_slot marks id n want vars s = of_letting _ _ (of_pick _ _ _ (of_unify marks id want _ vars s) (λ f. of_refusal SlotNotOpen id 0 s (lit≤ tt)))
 
   type_pick : (b : Bool) (x y : Typing) → GivesType x → GivesType y → GivesType (pick b x y)
   unfolding pick
@@ -256,7 +221,7 @@ module _ (run : Run) (parts : (id want vars : ℕ) (s : State) → Gives (run id
       of_letting _ _
       (of_gives _ _ (of_let_type e id n.c vars _)
       (λ x vars s. of_then _ _ (parts _ _ _ s)
-      (λ o s. of_letting _ _ (of_letting _ _ (of_pick _ _ _ (of_letting _ _ (of_done _ _ _ _)) (λ f. of_refusal 34 id 0 _ (lit≤ tt)))))))
+      (λ o s. of_letting _ _ (of_letting _ _ (of_pick _ _ _ (of_letting _ _ (of_done _ _ _ _)) (λ f. of_refusal SlotBoundBefore id 0 _ (lit≤ tt)))))))
 
   of_stmt : (e : Env) (id vars : ℕ) (s : State) → Gives (stmt_rule run e id vars s)
   unfolding stmt_rule
@@ -290,10 +255,10 @@ module _ (run : Run) (parts : (id want vars : ℕ) (s : State) → Gives (run id
       of_resolving _ s _
       (λ x s. of_letting _ _
       (of_letting _ _
-      (of_pick _ _ _
-      (of_then _ _ (parts _ _ _ s)
+      (by_decided Gives _ _ _
+      (λ plan t. of_then _ _ (parts _ _ _ s)
       (λ r s. of_then _ _ (of_pick _ _ _ (of_done _ _ _ _) (λ f. of_unify _ _ _ _ _ s)) (λ u s. of_letting _ _ (of_done _ _ _ _))))
-      (λ f. of_refusal _ _ 0 s (some (operator_plan n.op own x (is_list e.p e.c x)).number f (operator_plan_lem n.op own x (is_list e.p e.c x)))))))
+      (λ f t. of_refusal f _ 0 s (subst FinePlan t (plan_fine n.op own x (is_list e.p e.c x)))))))
 
   of_operator : (e : Env) (id : ℕ) (n : ExpressionRow) (want vars : ℕ) (s : State) → Gives (operator_rule run e id n want vars s)
   unfolding operator_rule bool_first
@@ -317,16 +282,16 @@ module _ (run : Run) (parts : (id want vars : ℕ) (s : State) → Gives (run id
       of_letting _ _
       (of_letting _ _
       (of_letting _ _
-      (of_pick _ _ _
-      (of_letting _ _ (of_pick _ _ _ (of_body e arms k _ want vars _) (λ f. of_refusal 34 id 0 _ (lit≤ tt))))
-      (λ f. of_refusal _ id 0 s (some (arm_fault e.p e.c e.marks list (list_item e.p e.c arms (4 * k)) (list_item e.p e.c arms (4 * k + 1))) f (arm_fault_lem e.p e.c e.marks list (list_item e.p e.c arms (4 * k)) (list_item e.p e.c arms (4 * k + 1))))))))
+      (by_found Gives _ _ _
+      (λ t. of_letting _ _ (of_pick _ _ _ (of_body e arms k _ want vars _) (λ f. of_refusal SlotBoundBefore id 0 _ (lit≤ tt))))
+      (λ f t. of_refusal f id 0 s (subst FineFound t (arm_fine e.p e.c e.marks list (list_item e.p e.c arms (4 * k)) (list_item e.p e.c arms (4 * k + 1))))))))
 
   of_arms : (e : Env) (id list arms left k : ℕ) (ended d : Bool) (want vars : ℕ) (s : State) → Gives (arms_rule run e id list arms left k ended d want vars s)
   unfolding arms_rule
   of_arms e id list arms zero k ended d want vars s = of_done _ _ _ _
   of_arms e id list arms (suc left) k ended d want vars s =
       of_pick _ _ _
-      (of_letting _ _ (of_refusal 25 _ 0 s (lit≤ tt)))
+      (of_letting _ _ (of_refusal ArmAfterAny _ 0 s (lit≤ tt)))
       (λ f. of_then _ _ (of_arm e id list arms k want vars s) (λ o s. of_letting _ _ (of_letting _ _ (of_arms e id list arms left _ _ _ want _ s))))
 
   of_cases : (e : Env) (id list arms want vars : ℕ) (s : State) → Gives (cases_rule run e id list arms want vars s)
@@ -334,11 +299,11 @@ module _ (run : Run) (parts : (id want vars : ℕ) (s : State) → Gives (run id
   of_cases e id list arms want vars s =
       of_letting _ _
       (of_then _ _ (of_arms e id list arms _ _ _ _ want vars s)
-      (λ o s. of_letting _ _ (of_pick _ _ _ (of_done _ _ _ _) (λ f. of_refusal 30 id _ s (lit≤ tt)))))
+      (λ o s. of_letting _ _ (of_pick _ _ _ (of_done _ _ _ _) (λ f. of_refusal NotExhaustive id _ s (lit≤ tt)))))
 
   of_subject : (e : Env) (id : ℕ) (n : ExpressionRow) (want vars : ℕ) (s : State) (x : Subject) → Gives (subject_rule run e id n want vars s x)
-  of_subject e id n want vars s subject.Other = of_refusal 24 _ 0 s (lit≤ tt)
-  of_subject e id n want vars s subject.Generic = of_refusal 36 id 0 s (lit≤ tt)
+  of_subject e id n want vars s subject.Other = of_refusal NotAnEnum _ 0 s (lit≤ tt)
+  of_subject e id n want vars s subject.Generic = of_refusal NotPlain id 0 s (lit≤ tt)
   of_subject e id n want vars s (subject.Enum list) = of_cases e id list n.b want vars s
 
   of_match : (e : Env) (id : ℕ) (n : ExpressionRow) (want vars : ℕ) (s : State) → Gives (match_rule run e id n want vars s)
@@ -346,7 +311,7 @@ module _ (run : Run) (parts : (id want vars : ℕ) (s : State) → Gives (run id
   of_match e id n want vars s =
       of_gives _ _ (of_fresh _ vars s)
       (λ own vars s. of_then _ _ (parts _ _ _ s)
-      (λ o s. of_pick _ _ _ (of_refusal 23 _ 0 s (lit≤ tt)) (λ f. of_resolving _ s _ (λ x s. of_letting _ _ (of_subject e id n want o.vars s (subject_of e.p e.c x))))))
+      (λ o s. of_pick _ _ _ (of_refusal ExamineeDiverges _ 0 s (lit≤ tt)) (λ f. of_resolving _ s _ (λ x s. of_letting _ _ (of_subject e id n want o.vars s (subject_of e.p e.c x))))))
 
   of_fields : (e : Env) (list fields left k : ℕ) (d : Bool) (vars : ℕ) (s : State) → Gives (fields_rule run e list fields left k d vars s)
   unfolding fields_rule
@@ -358,16 +323,16 @@ module _ (run : Run) (parts : (id want vars : ℕ) (s : State) → Gives (run id
   unfolding record_rule
   of_record e id n want vars s =
       of_letting _ _
-      (of_pick _ _ _
-      (of_letting _ _
+      (by_found Gives _ _ _
+      (λ t. of_letting _ _
       (of_letting _ _
       (of_then _ _ (of_fields e _ _ _ _ _ vars s) (λ o s. of_letting _ _ (of_then _ _ (of_unify _ _ _ _ _ s) (λ u s. of_done _ _ _ _))))))
-      (λ f. of_refusal _ id _ s (some (record_fault e.p e.c e.marks n.a n.b).number f (record_fault_lem e.p e.c e.marks n.a n.b))))
+      (λ f t. of_refusal f.fault id f.detail s (subst FineRecord t (record_fine e.p e.c e.marks n.a n.b))))
 
   of_accessed : (e : Env) (id want : ℕ) (d : Bool) (vars : ℕ) (s : State) (x : Accessed) → FineAccess x → Gives (accessed_rule e id want d vars s x)
   unfolding field_type_rule
-  of_accessed e id want d vars s (accessed.Fault number) h = of_refusal number id 0 s h
-  of_accessed e id want d vars s (accessed.Type t) h = of_letting _ _ (of_then _ _ (of_unify _ _ _ _ _ s) (λ u s. of_done _ _ _ _))
+  of_accessed e id want d vars s (Err fault) h = of_refusal fault id 0 s h
+  of_accessed e id want d vars s (Ok t) h = of_letting _ _ (of_then _ _ (of_unify _ _ _ _ _ s) (λ u s. of_done _ _ _ _))
 
   of_field : (e : Env) (id : ℕ) (n : ExpressionRow) (want vars : ℕ) (s : State) → Gives (field_rule run e id n want vars s)
   unfolding field_rule
@@ -392,7 +357,7 @@ module _ (run : Run) (parts : (id want vars : ℕ) (s : State) → Gives (run id
       (λ f. of_pick _ _ _ (of_record e id n want vars s)
       (λ f. of_pick _ _ _ (of_field e id n want vars s)
       (λ f. of_pick _ _ _ (of_then _ _ (of_returned e id n.a vars s) (λ o s. of_done _ _ _ _))
-      (λ f. of_refusal 15 id 0 s (lit≤ tt)))))))))
+      (λ f. of_refusal StrayLet id 0 s (lit≤ tt)))))))))
 
   of_node : (e : Env) (id want vars : ℕ) (s : State) → Gives (node_rule run e id want vars s)
   unfolding node_rule
@@ -400,7 +365,7 @@ module _ (run : Run) (parts : (id want vars : ℕ) (s : State) → Gives (run id
 
 pub of_expr : (left : ℕ) (e : Env) (id want vars : ℕ) (s : State) → Gives (expr_rule left e id want vars s)
 unfolding expr_rule
-of_expr zero e id want vars s = of_refusal 13 id 0 s (lit≤ tt)
+of_expr zero e id want vars s = of_refusal TooDeep id 0 s (lit≤ tt)
 of_expr (suc left) e id want vars s = of_node (expr_rule left e) (of_expr left e) e id want vars s
 
 -- a root gives none but these numbers
@@ -408,5 +373,5 @@ pub of_root_lem : (p : List ℕ) (c : Counts) (same marks : List ℕ) (root : �
 unfolding root_rule
 of_root_lem p c same marks root =
     of_letting _ _
-    (of_pick _ _ _ (of_refusal 35 _ 0 _ (lit≤ tt))
-    (λ f. of_letting _ _ (of_letting _ _ (of_pick _ _ _ (of_expr _ _ _ _ _ _) (λ f. of_refusal 34 _ 0 _ (lit≤ tt))))))
+    (of_pick _ _ _ (of_refusal HoldsVariable _ 0 _ (lit≤ tt))
+    (λ f. of_letting _ _ (of_letting _ _ (of_pick _ _ _ (of_expr _ _ _ _ _ _) (λ f. of_refusal SlotBoundBefore _ 0 _ (lit≤ tt))))))

@@ -53,7 +53,7 @@ use Rattle.slots.specs.Slots.{opened, open_all, open_list, open_pairs, shut, clo
 use Rattle.words.specs.Notes.{note_of, code_noted, call_noted, diverges_noted, is_seen}
 use Rattle.words.specs.Words.{encode, word_byte, put_word, word_of, seen_ids, put_words, words_area}
 use Rattle.expr.specs.Rules.{literal_code, recorded, sealed, bare_rule, literal_rule, slot_rule, bool_first, operand_type, result_last, right_rule, operator_rule, guard_rule, payload_opens, payload_closes, body_rule, arm_rule, ends_arms, arms_rule, cases_rule, match_rule, kind_rule, node_rule, expr_rule}
-use Rattle.expr.specs.State.{◌then◌, ◌gives◌, resolving, fresh_type, unify_step}
+use Rattle.expr.specs.State.{◌then◌, ◌gives◌, resolving, refusing, deciding, fresh_type, unify_step}
 use Rattle.expr.specs.Root.{same_of, marks_of, root_rule as check_rule, root_answer_in, root_area_in}
 use Rattle.entries.specs.Answers.{Told, told, Result, result}
 use Rattle.entries.specs.Ready.{ready_to_check, ready_to_order}
@@ -163,6 +163,6 @@ unfolding
     pair_of is_member member_of is_marked any_marked any_field_marked subject_for subject_of payload_fault arm_fault covers covered missing_variants any_place tally is_row named_by is_list
     opened open_all open_list open_pairs shut close_list let_slot close_lets note_of code_noted call_noted diverges_noted is_seen encode word_byte put_word word_of seen_ids put_words words_area
     literal_code recorded sealed bare_rule literal_rule slot_rule bool_first operand_type result_last right_rule operator_rule guard_rule payload_opens payload_closes body_rule arm_rule ends_arms arms_rule cases_rule match_rule kind_rule node_rule expr_rule
-    ◌then◌ ◌gives◌ resolving fresh_type unify_step same_of marks_of check_rule root_answer_in root_area_in
+    ◌then◌ ◌gives◌ resolving refusing deciding fresh_type unify_step same_of marks_of check_rule root_answer_in root_area_in
     ready_to_check ready_to_order types_answer root_checked order_answer
 worked = refl

@@ -1,12 +1,7 @@
 -- "Every answer is either a report or a refusal carrying number, place and detail (0 unless said)": as the host gets them, all 0 for a report.
-use Rattle.std.specs.Prelude.{ℕ, List}
+use Rattle.std.specs.Prelude.{ℕ, List, Result as Returned, Ok, Err}
+use Rattle.laws.specs.Faults.{number_of}
 use Rattle.laws.specs.declared.refusal.Refusal.{Refusal}
-use Rattle.pack.specs.declared.answer.Reading.{Reading}
-use Rattle.pack.specs.declared.answer.Reading.TheVariants.{Pack, Refused}
-use Rattle.expr.specs.declared.answer.Checked.{Checked}
-use Rattle.expr.specs.declared.answer.Checked.TheVariants as checked
-use Rattle.value_cycle.specs.declared.answer.Order.{Order}
-use Rattle.value_cycle.specs.declared.answer.Order.TheVariants as order
 
 pub record Told : Type 0 where
   pub number : ℕ
@@ -28,17 +23,9 @@ abbrev pub report : Told
 report = told 0 0 0
 
 abbrev pub refusal : Refusal → Told
-refusal r = told r.number r.place r.detail
+refusal r = told (number_of r.fault) r.place r.detail
 
 -- "a definition gives this paper's number and values for each case of the enum"
-abbrev pub reading_told : Reading → Told
-reading_told (Pack c) = report
-reading_told (Refused r) = refusal r
-
-abbrev pub checked_told : Checked → Told
-checked_told checked.Report = report
-checked_told (checked.Refused r) = refusal r
-
-abbrev pub order_told : Order → Told
-order_told order.Listed = report
-order_told (order.Refused r) = refusal r
+abbrev pub answer_told : {A : Type 0} → Returned A Refusal → Told
+answer_told (Ok x) = report
+answer_told (Err r) = refusal r

@@ -1,12 +1,9 @@
 -- The root entry: the pack, the root number and the area, "then the entry's own module alone", here module 4.
-use Rattle.std.specs.Prelude.{ℕ, List, length}
+use Rattle.std.specs.Prelude.{ℕ, List, length, Ok, Err}
 use Rattle.pack.specs.declared.counts.Counts.{Counts}
-use Rattle.pack.specs.declared.answer.Reading.{Reading}
-use Rattle.pack.specs.declared.answer.Reading.TheVariants.{Pack, Refused}
-use Rattle.expr.specs.Root.{root_answer, root_area}
-use Rattle.expr.specs.declared.answer.Checked.{Checked as Answer}
-use Rattle.expr.specs.declared.answer.Checked.TheVariants as answer
-use Rattle.entries.specs.Answers.{Result, result, checked_told}
+use Rattle.pack.specs.Answer.{Reading}
+use Rattle.expr.specs.Root.{root_answer, root_area, Checked as Answer}
+use Rattle.entries.specs.Answers.{Result, result, answer_told}
 use Rattle.entries.specs.Ready.{ready_to_check}
 
 -- the answer of module 4, and the area after it
@@ -22,14 +19,14 @@ checked_in p c root area = checked (root_answer p c root) (root_area p c root ar
 
 -- "A refusal leaves the result area unchanged."
 abbrev pub checked_by : List ℕ → ℕ → List ℕ → Reading → Checked
-checked_by p root area (Pack c) = checked_in p c root area
-checked_by p root area (Refused r) = checked (answer.Refused r) area
+checked_by p root area (Ok c) = checked_in p c root area
+checked_by p root area (Err r) = checked (Err r) area
 
 unfoldable pub root_checked : List ℕ → ℕ → List ℕ → Checked
 root_checked p root area = checked_by p root area (ready_to_check p root (length area))
 
 abbrev pub root_result : Checked → Result
-root_result out = result (checked_told out.answer) out.area
+root_result out = result (answer_told out.answer) out.area
 
 abbrev pub root_of : List ℕ → ℕ → List ℕ → Result
 root_of p root area = root_result (root_checked p root area)

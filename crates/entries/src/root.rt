@@ -1,22 +1,22 @@
 // A root for the host: module 4 on a pack that is well-formed, in an area with room for the words of its nodes.
 ghost use Rattle.std.specs.Prelude.{◌≡◌, ◌*◌, ◌<◌, ◌≤◌, length};
-ghost use Rattle.pack.specs.declared.answer.Reading.TheVariants.{Pack};
 ghost use Rattle.formed.specs.Formed.{formed_of};
 ghost use Rattle.entries.specs.Answers.{told, result as with_area};
 ghost use Rattle.entries.specs.Root.{checked, checked_in, root_checked, root_of};
 
-use crate::answers::{refuse, report};
+use crate::answers::tell;
 use crate::ready::ready_to_check;
-use expr::{Checked, check_root};
+use expr::check_root;
+use laws::Refusal;
 use names::{NameIndex, fill_names};
-use pack::{Counts, Reading};
+use pack::Counts;
 use structure::number_rows;
 use unionfind::UnionFind;
 use words::Notes;
 
 // A root of a well-formed pack, its rows numbered by structure and its names put in order first.
-fn check_numbered(pack: &[u8], c: Counts, root: u32, area: &mut [u8]) -> Checked
-    requires { (formed_of pack.now ≡ Pack c) × (root < c.roots) × (4 * c.expressions ≤ length area.old) }
+fn check_numbered(pack: &[u8], c: Counts, root: u32, area: &mut [u8]) -> Result<(), Refusal>
+    requires { (formed_of pack.now ≡ Ok c) × (root < c.roots) × (4 * c.expressions ≤ length area.old) }
     ensures { checked result area.new ≡ checked_in pack.now c root area.old }
 {
     let table = number_rows(pack, c);
@@ -39,15 +39,11 @@ fn check_numbered(pack: &[u8], c: Counts, root: u32, area: &mut [u8]) -> Checked
     )
 }
 
-fn check_one(pack: &[u8], root: u64, area: &mut [u8]) -> Checked
+fn check_one(pack: &[u8], root: u64, area: &mut [u8]) -> Result<(), Refusal>
     ensures { checked result area.new ≡ root_checked pack.now root area.old }
 {
-    let room = area.len();
-    let ready = ready_to_check(pack, root, room);
-    match ready {
-        Reading::Pack(c) => check_numbered(pack, c, root as u32, area),
-        Reading::Refused(r) => Checked::Refused(r),
-    }
+    let c = ready_to_check(pack, root, area.len())?;
+    check_numbered(pack, c, root as u32, area)
 }
 
 pub fn rulepack_root(
@@ -60,8 +56,5 @@ pub fn rulepack_root(
     ensures { with_area (told result place.new detail.new) area.new ≡ root_of pack.now root area.old }
 {
     let answer = check_one(pack, root, area);
-    match answer {
-        Checked::Report => report(place, detail),
-        Checked::Refused(r) => refuse(r, place, detail),
-    }
+    tell(answer, place, detail)
 }

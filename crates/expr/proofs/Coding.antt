@@ -4,7 +4,7 @@
 --     opened_ready, open_list_ready, open_pairs_ready, close_list_ready, close_lets_ready, payload_opens_ready, payload_closes_ready     slots
 --     fielded, field_first, fields_next, accessed_coded     type rows that are not marked
 -- Assumes nothing.
-use mathlib.Core.Path.{◌≡◌, refl}
+use mathlib.Core.Path.{◌≡◌, refl, subst}
 use mathlib.Core.List.{List}
 use mathlib.Core.Bool.{Bool, false, ◌||◌}
 use Prim.Native.Nat.{ℕ, zero, suc, ◌+◌, ◌*◌, ◌%◌, ◌<◌}
@@ -20,7 +20,10 @@ use Rattle.structure.specs.Types.{code_in}
 use Rattle.operators.specs.Operators.{bool_code, u8_code, u32_code, prefix_code}
 use Rattle.members.specs.Lookup.{member_of}
 use Rattle.members.specs.Field.{accessed_by}
-use Rattle.members.specs.declared.answer.Accessed.TheVariants as accessed
+use Rattle.std.proofs.Common.{Ok, None}
+use Rattle.operators.specs.Operators.{operator_plan}
+use Rattle.operators.specs.declared.plan.OperatorPlan.{OperatorPlan}
+use Rattle.operators.proofs.Promises.{Planned, plan_codes}
 use Rattle.arms.specs.Match.{arm_fault}
 use Rattle.records.specs.Record.{record_fault}
 use Rattle.slots.specs.Slots.{opened, Opening, open_list, open_pairs, close_list, close_lets}
@@ -140,7 +143,7 @@ module _ {vars : ℕ} where
     open_pairs_ready same list f h = slotted h (record { each = open_pairs_all (Coded vars) (never_coded vars) p c same list s h.slots.each f })
 
   -- an arm without a fault
-  pub payload_opens_ready : {l s w : List ℕ} (e : Env) (list name payload : ℕ) → MarkedIn e → arm_fault e.p e.c e.marks list name payload ≡ 0
+  pub payload_opens_ready : {l s w : List ℕ} (e : Env) (list name payload : ℕ) → MarkedIn e → arm_fault e.p e.c e.marks list name payload ≡ None
       → Ready vars (st l s w) → Ready vars (st l (payload_opens e.p e.c e.same list name payload s).slots w)
   unfolding payload_opens
   payload_opens_ready e list name zero m z h = h
@@ -154,7 +157,7 @@ module _ {vars : ℕ} where
 -- ---- type rows that are not marked
 
 -- the fields of a record without a fault
-pub fielded : (e : Env) (d fields : ℕ) → MarkedIn e → (record_fault e.p e.c e.marks d fields).number ≡ 0
+pub fielded : (e : Env) (d fields : ℕ) → MarkedIn e → record_fault e.p e.c e.marks d fields ≡ None
     → Fielded e (definition_row e.p e.c d).list fields (list_len e.p e.c fields) 0
 fielded e d fields m z = record { each = λ j a b. m.each _ (record_unmarked e.p e.c e.marks d fields z j (omega arith)) }
 
@@ -165,6 +168,12 @@ module _ {e : Env} {list fields left k : ℕ} (f : Fielded e list fields (suc le
   pub fields_next : Fielded e list fields left (k + 1)
   fields_next = record { each = λ j a b. f.each j (omega arith) (omega arith) }
 
+-- the right side and the result of an operator
+pub plan_coded : (op own x : ℕ) (list : Bool) {plan : OperatorPlan} {vars : ℕ} → operator_plan op own x list ≡ Ok plan → Coded vars own → Coded vars plan.right × Coded vars plan.result
+plan_coded op own x list {vars = vars} q k =
+    subst (Planned (λ p. Coded vars p.right × Coded vars p.result)) q
+    (plan_codes op own x list (Coded vars) k (bool_coded vars) (u8_coded vars) (u32_coded vars) (prefix_coded vars))
+
 -- a field that was found
-pub accessed_coded : (e : Env) (x name : ℕ) {t : ℕ} → MarkedIn e → accessed_by e.p e.c e.marks x name ≡ accessed.Type t → (n : ℕ) → Coded n (code_in e.p e.c e.same t)
+pub accessed_coded : (e : Env) (x name : ℕ) {t : ℕ} → MarkedIn e → accessed_by e.p e.c e.marks x name ≡ Ok t → (n : ℕ) → Coded n (code_in e.p e.c e.same t)
 accessed_coded e x name m z n = m.each _ (accessed_unmarked e.p e.c e.marks x name _ z) n

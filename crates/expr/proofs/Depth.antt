@@ -16,27 +16,27 @@ use Rattle.laws.specs.Lists.{In}
 use Rattle.laws.proofs.Members.{in_self}
 use Rattle.pack.specs.Rows.{expression_row, root_row}
 use Rattle.pack.specs.Named.{statements_of, operands_of, kids_of}
+use Rattle.laws.specs.Faults.{number_of}
 use Rattle.laws.specs.declared.refusal.Refusal.{Refusal}
 use Rattle.rows.proofs.Promises.{root_inside}
 use Rattle.trees.specs.Nodes.{depth_of, max_depth}
 use Rattle.trees.proofs.TreeLaws.{stated_body}
 use Rattle.formed.proofs.Promises.{WellFormed}
-use Rattle.expr.specs.State.{Env, State, Ans, cont, ◌then◌}
+use Rattle.expr.specs.State.{Env, State, Ans, cont, ◌then◌, Step}
 use Rattle.expr.specs.Rules.{expr_rule}
 use Rattle.expr.specs.declared.answer.Outcome.{Outcome}
-use Rattle.expr.specs.declared.answer.Step.{Step}
-use Rattle.expr.specs.declared.answer.Step.TheVariants.{Done, Refused}
 use Rattle.expr.proofs.Numbers.{least}
 use Rattle.expr.proofs.Walk.{Laws, Each, Runs, Statements}
 use Rattle.expr.proofs.Walks.{node_holds}
 use Rattle.expr.proofs.Nodes.{each_in, statement_kid, operand_kid, kid_inside, operand_plain, let_value, kind_known_lem, body_free}
+use Rattle.std.proofs.Common.{Ok, Err}
 
 -- ---- what an answer says
 
 -- a step that is not refused by that number
 abbrev pub NotBy : ℕ → Step → Type 0
-NotBy number (Done o) = Unit {0}
-NotBy number (Refused f) = f.number ≡ number → ⊥
+NotBy number (Ok o) = Unit {0}
+NotBy number (Err f) = number_of f.fault ≡ number → ⊥
 
 pub record Avoids (number n : ℕ) (w : List ℕ) (a b : Ans) : Type 0 where
   pub avoids : NotBy number a.step
@@ -51,8 +51,8 @@ unfolding ◌then◌
 avoids_then {number = number} {a = a} {j = j} h f = record { avoids = go a.step h.avoids }
   where
     go : (r : Step) → NotBy number r → NotBy number (cont r a.st j).step
-    go (Done o) h = (f o a.st).avoids
-    go (Refused e) h = h
+    go (Ok o) h = (f o a.st).avoids
+    go (Err e) h = h
 
 -- no rule refuses by a number below 20 by itself
 avoids_laws : (number : ℕ) → number < least → Laws (Avoids number) nothing
@@ -74,8 +74,8 @@ unfolding ◌then◌
 alike_then {b = b} {j = j} {k = k} h f = record { same = ap (λ (a : Ans). cont a.step a.st j) h.same ∙ go b.step }
   where
     go : (r : Step) → cont r b.st j ≡ cont r b.st k
-    go (Done o) = (f o b.st).same
-    go (Refused e) = refl
+    go (Ok o) = (f o b.st).same
+    go (Err e) = refl
 
 alike_laws : Laws Alike nothing
 alike_laws = record {
@@ -185,11 +185,11 @@ module _ (e : Env) (f : WellFormed e.p e.c) where
   -- ---- as it is used
 
   module _ (left id want vars : ℕ) (s : State) where
-    pub never_deep : Enough left id → (r : Refusal) → (expr_rule left e id want vars s).step ≡ Refused r → r.number ≡ 13 → ⊥
-    never_deep h r q = let k : NotBy 13 (Refused r) = subst (NotBy 13) q ((expr_deep left).holds id want vars s h).avoids in k
+    pub never_deep : Enough left id → (r : Refusal) → (expr_rule left e id want vars s).step ≡ Err r → number_of r.fault ≡ 13 → ⊥
+    never_deep h r q = let k : NotBy 13 (Err r) = subst (NotBy 13) q ((expr_deep left).holds id want vars s h).avoids in k
 
-    pub never_stray : Plain left id → (r : Refusal) → (expr_rule left e id want vars s).step ≡ Refused r → r.number ≡ 15 → ⊥
-    never_stray h r q = let k : NotBy 15 (Refused r) = subst (NotBy 15) q ((expr_stray left).holds id want vars s h).avoids in k
+    pub never_stray : Plain left id → (r : Refusal) → (expr_rule left e id want vars s).step ≡ Err r → number_of r.fault ≡ 15 → ⊥
+    never_stray h r q = let k : NotBy 15 (Err r) = subst (NotBy 15) q ((expr_stray left).holds id want vars s h).avoids in k
 
     pub same_depth : (more : ℕ) → Enough left id → expr_rule (left + more) e id want vars s ≡ expr_rule left e id want vars s
     same_depth more h = ((expr_alike left (left + more) (omega arith)).holds id want vars s h).same

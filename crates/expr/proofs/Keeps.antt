@@ -1,31 +1,26 @@
 -- Every rule keeps the state ready, over a checker of the parts that does. A rule's proof is the rule's own text.
 --     let_keeps .. node_keeps             a law for each rule that has parts (those without: Leaves)
 --     expr_keeps                          the checker, whatever the depth
---     run_given, given_after, given_after_type, given_more     for the functions, which are given all of it at once
+--     Given, run_given, lent                                   for the functions, which are given all of it at once
 -- Assumes nothing.
-use mathlib.Core.Path.{◌≡◌}
-use mathlib.Core.List.{List}
 use mathlib.Core.Bool.{Bool, true, false, ◌&&◌, ◌||◌}
 use Prim.Native.Nat.{ℕ, zero, suc, ◌+◌}
 use native.Mathlib.Omega.{arith}
 use borrow.Author.Tests.{eqb-true}
 use Rattle.pack.specs.declared.rows.ExpressionRow.{ExpressionRow}
 use Rattle.unionfind.specs.declared.codes.Kind.TheVariants.{Var}
-use Rattle.operators.proofs.Promises.{plan_codes}
 use Rattle.members.specs.Field.{accessed_by}
 use Rattle.arms.specs.Match.{subject_of}
 use Rattle.arms.specs.declared.answer.Subject.{Subject}
 use Rattle.arms.specs.declared.answer.Subject.TheVariants as subject
-use Rattle.expr.specs.State.{Env, State, Ans, Typing, st}
+use Rattle.expr.specs.State.{Env, State}
 use Rattle.expr.specs.Rules.{Run, let_rule, stmt_rule, stmts_rule, last_rule, block_rule, right_rule, operator_rule, body_rule, arm_rule, arms_rule, cases_rule, subject_rule, match_rule, fields_rule, record_rule, field_rule, returned_rule, return_rule, kind_rule, node_rule, expr_rule}
-use Rattle.expr.specs.declared.answer.Outcome.{Outcome}
-use Rattle.expr.specs.declared.answer.Step.{Step}
-use Rattle.expr.specs.declared.answer.Step.TheVariants.{Done}
-use Rattle.expr.specs.declared.answer.Typed.{Typed}
-use Rattle.expr.specs.declared.answer.Typed.TheVariants as typed
-use Rattle.expr.specs.Ready.{Coded, Given, Fielded, Ready, Ran, Types}
-use Rattle.expr.proofs.Coding.{MarkedIn, unit_coded, bool_coded, u8_coded, u32_coded, prefix_coded, definition_coded, last_coded, recorded_ready, sealed_ready, opened_ready, close_lets_ready, payload_opens_ready, payload_closes_ready, fielded, field_first, fields_next, accessed_coded}
-use Rattle.expr.proofs.Kept.{Keeps, after, after_type, RunKeeps, coded_more, dones, refuses, picks, lets, thens, givens, resolved, fresh_keeps, unify_keeps}
+use Rattle.expr.specs.Ready.{Coded, Fielded, Ready}
+use Rattle.expr.specs.Lent.{env_of}
+use Rattle.expr.specs.declared.state.Env.{Env as Lent}
+use Rattle.expr.proofs.Coding.{MarkedIn, unit_coded, bool_coded, u8_coded, u32_coded, prefix_coded, definition_coded, last_coded, recorded_ready, sealed_ready, opened_ready, close_lets_ready, payload_opens_ready, payload_closes_ready, plan_coded, fielded, field_first, fields_next, accessed_coded}
+use Rattle.expr.proofs.Kept.{Keeps, RunKeeps, coded_more, dones, refuses, picks, lets, thens, givens, resolved, fresh_keeps, unify_keeps}
+use Rattle.expr.proofs.Decided.{by_found, by_decided}
 use Rattle.expr.proofs.Leaves.{literal_keeps, slot_keeps, let_type_keeps, bool_first_keeps, operand_type_keeps, result_last_keeps, guard_keeps, accessed_keeps}
 
 module _ (run : Run) (e : Env) where
@@ -75,13 +70,13 @@ module _ (run : Run) (e : Env) where
   unfolding right_rule
   right_keeps id n want own d vars s run-keeps ret h w k =
       resolved h k λ x s h.
-      lets _ _ (lets _ _ (picks _
-      (λ t.
-      let q = plan_codes n.op own x _ (Coded vars) k (bool_coded vars) (u8_coded vars) (u32_coded vars) (prefix_coded vars) (eqb-true _ 0 t) in
+      lets _ _ (lets _ _ (by_decided (Keeps vars) _ _ _
+      (λ plan t.
+      let q = plan_coded n.op own x _ t k in
       thens (run-keeps.keeps n.b _ vars s h q.0) λ r s le h.
       thens (result_last_keeps e.marks id n.op want _ r.vars s h (coded_more le w) (coded_more le q.1)) λ u s le h.
       lets _ _ (dones h))
-      (λ f. refuses)))
+      (λ f t. refuses)))
 
   pub operator_keeps : (id : ℕ) (n : ExpressionRow) (want vars : ℕ) (s : State) → RunKeeps run → Coded 0 e.ret → Ready vars s → Coded vars want → Keeps vars (operator_rule run e id n want vars s)
   unfolding operator_rule
@@ -103,11 +98,11 @@ module _ (run : Run) (e : Env) where
   pub arm_keeps : (id list arms k want vars : ℕ) (s : State) → RunKeeps run → Coded 0 e.ret → MarkedIn e → Ready vars s → Coded vars want → Keeps vars (arm_rule run e id list arms k want vars s)
   unfolding arm_rule
   arm_keeps id list arms k want vars s run-keeps ret m h w =
-      lets _ _ (lets _ _ (lets _ _ (picks _
+      lets _ _ (lets _ _ (lets _ _ (by_found (Keeps vars) _ _ _
       (λ t. lets _ _ (picks _
-      (λ ok. body_keeps arms k _ want vars _ run-keeps ret (payload_opens_ready e list _ _ m (eqb-true _ 0 t) h) w)
+      (λ ok. body_keeps arms k _ want vars _ run-keeps ret (payload_opens_ready e list _ _ m t h) w)
       (λ f. refuses)))
-      (λ f. refuses))))
+      (λ f t. refuses))))
 
   pub arms_keeps : (id list arms left k : ℕ) (ended d : Bool) (want vars : ℕ) (s : State) → RunKeeps run → Coded 0 e.ret → MarkedIn e → Ready vars s → Coded vars want
       → Keeps vars (arms_rule run e id list arms left k ended d want vars s)
@@ -152,10 +147,10 @@ module _ (run : Run) (e : Env) where
   pub record_keeps : (id : ℕ) (n : ExpressionRow) (want vars : ℕ) (s : State) → RunKeeps run → Coded 0 e.ret → MarkedIn e → Ready vars s → Coded vars want → Keeps vars (record_rule run e id n want vars s)
   unfolding record_rule
   record_keeps id n want vars s run-keeps ret m h w =
-      lets _ _ (picks _
-      (λ t. lets _ _ (lets _ _ (thens (fields_keeps _ n.b _ 0 false vars s run-keeps ret (fielded e n.a n.b m (eqb-true _ 0 t)) h) λ o s le h.
+      lets _ _ (by_found (Keeps vars) _ _ _
+      (λ t. lets _ _ (lets _ _ (thens (fields_keeps _ n.b _ 0 false vars s run-keeps ret (fielded e n.a n.b m t) h) λ o s le h.
       lets _ _ (thens (unify_keeps e.marks id want _ o.vars s h (coded_more le w) (definition_coded o.vars n.a)) λ u s le h. dones h))))
-      (λ f. refuses))
+      (λ f t. refuses))
 
   -- ---- field
 
@@ -207,15 +202,15 @@ expr_keeps (suc left) e ret m = record { keeps = λ id want vars s h w. node_kee
 
 -- ---- what a rule is given
 
-module _ {e : Env} {names : List ℕ} {vars : ℕ} {s : State} (g : Given e names vars s) where
-  pub run_given : (depth : ℕ) → RunKeeps (expr_rule depth e)
-  run_given depth = expr_keeps depth e g.returns g.marked
+pub record Given (e : Env) (vars : ℕ) (s : State) : Type 0 where
+  pub ready : Ready vars s
+  pub returns : Coded 0 e.ret
+  pub marked : MarkedIn e
 
-  pub given_more : {more : ℕ} {t : State} → Ready more t → Given e names more t
-  given_more h = record { ready = h; returns = g.returns; marked = g.marked; indexed = g.indexed }
+-- the parts keep what is ready
+pub run_given : {e : Env} {vars : ℕ} {s : State} → Given e vars s → (depth : ℕ) → RunKeeps (expr_rule depth e)
+run_given {e = e} g depth = expr_keeps depth e g.returns g.marked
 
-  pub given_after : {a : Ans} {r : Step} {k l w : List ℕ} {o : Outcome} → Ran vars a r k l w → r ≡ Done o → Given e names o.vars (st k l w)
-  given_after h q = given_more (after h q).1
-
-  pub given_after_type : {a : Typing} {r : Typed} {k l w : List ℕ} {x more : ℕ} → Types vars a r k l w → r ≡ typed.Type x more → Given e names more (st k l w)
-  given_after_type h q = given_more (after_type h q).1.0
+-- the two structs that a function is lent, with what is true of every `Env`
+pub lent : (e : Lent) {vars : ℕ} {s : State} → Ready vars s → Given (env_of e) vars s
+lent e h = record { ready = h; returns = e.returns; marked = e.marked }

@@ -10,8 +10,8 @@ use Rattle.pack.specs.declared.rows.ExpressionRow.{ExpressionRow}
 use Rattle.unionfind.specs.declared.codes.Kind.{Kind}
 use Rattle.unionfind.specs.declared.codes.Kind.TheVariants.{Var, IntVar, FloatVar}
 use Rattle.structure.specs.Types.{code_in}
-use Rattle.members.specs.declared.answer.Accessed.{Accessed}
-use Rattle.members.specs.declared.answer.Accessed.TheVariants as accessed
+use Rattle.members.specs.Field.{Accessed}
+use Rattle.std.proofs.Common.{Ok, Err}
 use Rattle.expr.specs.State.{Env, State}
 use Rattle.expr.specs.Rules.{Run, bare_rule, literal_rule, slot_rule, let_type, bool_first, operand_type, result_last, guard_rule, field_type_rule, accessed_rule}
 use Rattle.expr.specs.Ready.{Coded, Marked, Ready}
@@ -73,6 +73,6 @@ unfolding field_type_rule
 field_type_keeps p c same marks id t want d vars s h w k = lets _ _ (thens (unify_keeps marks id want _ vars s h w k) λ u s le h. dones h)
 
 pub accessed_keeps : (e : Env) (id want : ℕ) (d : Bool) (vars : ℕ) (s : State) (a : Accessed) → Ready vars s → Coded vars want
-    → ((t : ℕ) → a ≡ accessed.Type t → Coded vars (code_in e.p e.c e.same t)) → Keeps vars (accessed_rule e id want d vars s a)
-accessed_keeps e id want d vars s (accessed.Fault number) h w k = refuses
-accessed_keeps e id want d vars s (accessed.Type t) h w k = field_type_keeps e.p e.c e.same e.marks id t want d vars s h w (k t refl)
+    → ((t : ℕ) → a ≡ Ok t → Coded vars (code_in e.p e.c e.same t)) → Keeps vars (accessed_rule e id want d vars s a)
+accessed_keeps e id want d vars s (Err fault) h w k = refuses
+accessed_keeps e id want d vars s (Ok t) h w k = field_type_keeps e.p e.c e.same e.marks id t want d vars s h w (k t refl)

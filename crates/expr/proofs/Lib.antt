@@ -21,3 +21,4 @@ pub mod Trees
 pub mod Visits
 pub mod Reports
 pub mod Apart
+pub mod Decided

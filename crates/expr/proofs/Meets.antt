@@ -5,19 +5,18 @@ use mathlib.Core.List.{List}
 use mathlib.Core.Bool.{Bool}
 use Prim.Native.Nat.{ℕ}
 use Rattle.pack.specs.declared.rows.ExpressionRow.{ExpressionRow}
-use Rattle.expr.specs.State.{Env, State, Ans, ran}
+use Rattle.expr.specs.State.{Env, State, Ans, ran, Step}
 use Rattle.expr.specs.Rules.{let_rule, stmt_rule, stmts_rule, last_rule, block_rule, right_rule, operator_rule, guard_rule, body_rule, arm_rule, arms_rule, cases_rule, match_rule, fields_rule, record_rule, field_rule, returned_rule, return_rule, kind_rule, expr_rule}
-use Rattle.expr.specs.Ready.{Coded, Given, Fielded, Ran}
-use Rattle.expr.specs.declared.answer.Step.{Step}
+use Rattle.expr.specs.Ready.{Coded, Fielded, Ran}
 use Rattle.expr.proofs.Kept.{ran_keeps}
 use Rattle.expr.proofs.Leaves.{guard_keeps}
-use Rattle.expr.proofs.Keeps.{let_keeps, stmt_keeps, stmts_keeps, last_keeps, block_keeps, right_keeps, operator_keeps, body_keeps, arm_keeps, arms_keeps, cases_keeps, match_keeps, fields_keeps, record_keeps, field_keeps, returned_keeps, return_keeps, kind_keeps, run_given}
+use Rattle.expr.proofs.Keeps.{let_keeps, stmt_keeps, stmts_keeps, last_keeps, block_keeps, right_keeps, operator_keeps, body_keeps, arm_keeps, arms_keeps, cases_keeps, match_keeps, fields_keeps, record_keeps, field_keeps, returned_keeps, return_keeps, kind_keeps, Given, run_given}
 
 -- an answer, which is the step and the arrays that it leaves, that is what a rule says
 abbrev Met : ℕ → Step → List ℕ → List ℕ → List ℕ → Ans → Type 0
 Met vars r c l w a = ran r c l w ≡ a → Ran vars a r c l w
 
-module _ {e : Env} {names : List ℕ} {vars : ℕ} {s : State} (g : Given e names vars s) (depth : ℕ) {r : Step} {c l w : List ℕ} where
+module _ {e : Env} {vars : ℕ} {s : State} (g : Given e vars s) (depth : ℕ) {r : Step} {c l w : List ℕ} where
   pub meets_let : (id : ℕ) (n : ExpressionRow) → Met vars r c l w (let_rule (expr_rule depth e) e id n vars s)
   meets_let id n = ran_keeps (let_keeps _ _ id n vars s (run_given g depth) g.returns g.marked g.ready)
 

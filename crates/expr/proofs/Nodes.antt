@@ -100,7 +100,7 @@ module _ (p : List ℕ) (c : Counts) (f : WellFormed p c) (id : ℕ) (l : id < c
   unfolding row_rule by_kind expression_rule expression_known
   kind_known_lem =
       let r = expression_row p c id in
-      let t = (tested (expression_known r) _ 9 (rule_passed p c f.rows_passed 2 id (omega arith) l)).0 in
+      let t = (tested (expression_known r) _ _ (rule_passed p c f.rows_passed 2 id (omega arith) l)).0 in
       by_le r.kind 8 (λ h. h) (λ h. absurd (fails (sym (and_both (eqb r.zero 0) (kind_known r) t).1 ∙ unknown r h)))
 
 depth_from : (p : List ℕ) (c : Counts) (n id : ℕ) → 0 < n → 1 ≤ depth_in p c n id

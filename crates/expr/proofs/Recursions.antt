@@ -10,8 +10,9 @@ use Rattle.laws.proofs.Choice.{no}
 use Rattle.pack.specs.declared.counts.Counts.{Counts}
 use Rattle.pack.specs.declared.rows.ExpressionRow.{ExpressionRow}
 use Rattle.slots.specs.Slots.{Opening}
+use Rattle.laws.specs.declared.fault.Fault.TheVariants.{StrayLet}
 use Rattle.expr.specs.State.{Env, State, Ans, Typing, refuse}
-use Rattle.expr.specs.Rules.{Run, let_type, last_code, stmts_rule, last_rule, guard_rule, payload_opens, payload_closes, arms_rule, fields_rule, returned_rule, kind_rule, expr_rule}
+use Rattle.expr.specs.Rules.{Run, let_type, stmts_rule, last_rule, guard_rule, payload_opens, arms_rule, fields_rule, returned_rule, kind_rule, expr_rule}
 
 -- a value f of a number: what it is of 0, and of the number after
 module _ {A : Type 0} (f : ℕ → A) {z : A} where
@@ -30,26 +31,12 @@ module _ {A : Type 0} (f : ℕ → A) {z : A} where
   at_item : (n k : ℕ) → k < n → z ≡ f (suc (n - (k + 1))) → z ≡ f (n - k)
   at_item n k h e = let q : suc (n - (k + 1)) ≡ n - k = omega arith in e ∙ ap f q
 
-module _ (notes : List ℕ) (last : ℕ) {z : ℕ} where
-  pub last_code_none : last ≡ 0 → z ≡ last_code notes 0 → z ≡ last_code notes last
-  last_code_none = at_none (last_code notes) last
-
-  pub last_code_more : (last ≡ 0 → ⊥) → z ≡ last_code notes (suc (last - 1)) → z ≡ last_code notes last
-  last_code_more = at_more (last_code notes) last
-
 module _ (p : List ℕ) (c : Counts) (same : List ℕ) (list name payload : ℕ) (slots : List ℕ) {z : Opening} where
   pub opens_none : payload ≡ 0 → z ≡ payload_opens p c same list name 0 slots → z ≡ payload_opens p c same list name payload slots
   opens_none = at_none (λ n. payload_opens p c same list name n slots) payload
 
   pub opens_more : (payload ≡ 0 → ⊥) → z ≡ payload_opens p c same list name (suc (payload - 1)) slots → z ≡ payload_opens p c same list name payload slots
   opens_more = at_more (λ n. payload_opens p c same list name n slots) payload
-
-module _ (p : List ℕ) (c : Counts) (payload : ℕ) (slots : List ℕ) {z : List ℕ} where
-  pub closes_none : payload ≡ 0 → z ≡ payload_closes p c 0 slots → z ≡ payload_closes p c payload slots
-  closes_none = at_none (λ n. payload_closes p c n slots) payload
-
-  pub closes_more : (payload ≡ 0 → ⊥) → z ≡ payload_closes p c (suc (payload - 1)) slots → z ≡ payload_closes p c payload slots
-  closes_more = at_more (λ n. payload_closes p c n slots) payload
 
 module _ (p : List ℕ) (c : Counts) (same marks : List ℕ) (id annotation vars : ℕ) (s : State) {z : Typing} where
   pub let_type_none : annotation ≡ 0 → z ≡ let_type p c same marks id 0 vars s → z ≡ let_type p c same marks id annotation vars s
@@ -115,7 +102,7 @@ module _ (run : Run) (e : Env) (id : ℕ) (n : ExpressionRow) (want vars : ℕ) 
 
   -- a kind that has no rule of its own
   pub other_kind : ((((((((Unit {0} × (k ≡ 0 → ⊥)) × (k ≡ 1 → ⊥)) × (k ≡ 2 → ⊥)) × (k ≡ 4 → ⊥)) × (k ≡ 5 → ⊥)) × (k ≡ 6 → ⊥)) × (k ≡ 7 → ⊥)) × (k ≡ 8 → ⊥))
-      → z ≡ refuse 15 id s → z ≡ kind_rule run e id n want vars s k
+      → z ≡ refuse StrayLet id s → z ≡ kind_rule run e id n want vars s k
   unfolding kind_rule
   other_kind h q =
       no _ _ _ (ne_eqb k 0 h.0.0.0.0.0.0.0.1) (no _ _ _ (ne_eqb k 1 h.0.0.0.0.0.0.1) (no _ _ _ (ne_eqb k 2 h.0.0.0.0.0.1)

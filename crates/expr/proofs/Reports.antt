@@ -29,9 +29,9 @@ use Rattle.report.specs.Visits.{tree_of}
 use Rattle.report.specs.Report.{Report, rep, write_all}
 use Rattle.report.proofs.Whole.{words_area_lem, notes_blank}
 use Rattle.expr.specs.declared.answer.Outcome.{Outcome}
-use Rattle.expr.specs.declared.answer.Step.TheVariants.{Done}
 use Rattle.expr.proofs.Trees.{tree_below, tree_once}
 use Rattle.expr.proofs.Visits.{untouched, all_seen, notes_long}
+use Rattle.std.proofs.Common.{Ok}
 
 module _ (e : Env) (f : WellFormed e.p e.c) (left id want vars : ℕ) (s : State) (l : id < e.c.expressions) (new : s.notes ≡ replicate nodes 0) where
   abbrev tree : List ℕ
@@ -44,7 +44,7 @@ module _ (e : Env) (f : WellFormed e.p e.c) (left id want vars : ℕ) (s : State
   unseen_else : (y : ℕ) → count y tree ≡ 0 → is_seen (get nodes answer.st.notes y) ≡ false
   unseen_else y z = ap is_seen (untouched e f y left id want vars s l z) ∙ rw new (nothing_seen y)
 
-  module _ {o : Outcome} (d : answer.step ≡ Done o) where
+  module _ {o : Outcome} (d : answer.step ≡ Ok o) where
     seen_there : (y : ℕ) → In y tree → is_seen (get nodes answer.st.notes y) ≡ true
     seen_there y i = all_seen e f y left id want vars s l (rw new (length-replicate {A = ℕ} nodes 0)) d i
 

@@ -3,45 +3,42 @@
 --     goes, stops            a step that has to be accepted
 --     typed_as_lem, typed_none   a type to check against
 --     resolves_to            a type resolved
---     is                     the answer itself
+--     is, is_typed           the answer itself
 --     met, made_type         unify and fresh as steps
+--     none_found, fault_found, was_decided, was_refused    a fault that was found, or what was decided
 -- Assumes nothing.
 use mathlib.Core.Path.{◌≡◌, sym, ap, ◌∙◌}
 use mathlib.Core.List.{List}
 use Prim.Native.Nat.{ℕ}
 use Rattle.laws.specs.declared.refusal.Refusal.{Refusal}
-use Rattle.unionfind.specs.Answers.{fresh_answer, Makes}
+use Rattle.unionfind.specs.Answers.{Answer, Made, fresh_answer, Makes}
 use Rattle.unionfind.specs.declared.codes.Kind.{Kind}
-use Rattle.unionfind.specs.declared.answer.Made.{Made}
-use Rattle.unionfind.specs.declared.answer.Answer.{Answer}
 use Rattle.unify.specs.Unify.{resolve_of, Resolves, unify_answer, Unifies}
-use Rattle.expr.specs.State.{State, Ans, Typing, st, ran, typed_as, cont, ◌then◌, cont_with, ◌gives◌, resolving, typed_made, fresh_type, step_for, unify_step}
+use Rattle.expr.specs.State.{State, Ans, Typing, st, ran, typed_as, cont, ◌then◌, cont_with, ◌gives◌, resolving, refusing, deciding, typed_made, fresh_type, step_for, unify_step, Step, Typed, expected}
 use Rattle.expr.specs.declared.answer.Outcome.{Outcome}
-use Rattle.expr.specs.declared.answer.Step.{Step}
-use Rattle.expr.specs.declared.answer.Step.TheVariants.{Done, Refused}
-use Rattle.expr.specs.declared.answer.Typed.{Typed}
-use Rattle.expr.specs.declared.answer.Typed.TheVariants as typed
+use Rattle.std.proofs.Common.{Option, Some, None, Result, Ok, Err}
+use Rattle.laws.specs.declared.fault.Fault.{Fault}
 
 pub goes : {z a : Ans} {r : Step} {c s w : List ℕ} {o : Outcome} (k : Outcome → State → Ans)
-    → ran r c s w ≡ a → r ≡ Done o → z ≡ k o (st c s w) → z ≡ (a then k)
+    → ran r c s w ≡ a → r ≡ Ok o → z ≡ k o (st c s w) → z ≡ (a then k)
 unfolding ◌then◌
 goes {c = c} {s = s} {w = w} k h d e =
     e ∙ sym (ap (λ (r : Step). cont r (st c s w) k) d) ∙ ap (λ (a : Ans). cont a.step a.st k) h
 
 pub stops : {a : Ans} {r : Step} {c s w : List ℕ} {f : Refusal} (k : Outcome → State → Ans)
-    → ran r c s w ≡ a → r ≡ Refused f → ran (Refused f) c s w ≡ (a then k)
+    → ran r c s w ≡ a → r ≡ Err f → ran (Err f) c s w ≡ (a then k)
 unfolding ◌then◌
 stops {c = c} {s = s} {w = w} k h d =
     sym (ap (λ (r : Step). cont r (st c s w) k) d) ∙ ap (λ (a : Ans). cont a.step a.st k) h
 
 pub typed_as_lem : {z : Ans} {a : Typing} {r : Typed} {c s w : List ℕ} {x more : ℕ} (k : ℕ → ℕ → State → Ans)
-    → typed_as r c s w ≡ a → r ≡ typed.Type x more → z ≡ k x more (st c s w) → z ≡ (a gives k)
+    → typed_as r c s w ≡ a → r ≡ Ok (expected x more) → z ≡ k x more (st c s w) → z ≡ (a gives k)
 unfolding ◌gives◌
 typed_as_lem {c = c} {s = s} {w = w} k h d e =
     e ∙ sym (ap (λ (r : Typed). cont_with r (st c s w) k) d) ∙ ap (λ (a : Typing). cont_with a.typed a.st k) h
 
 pub typed_none : {a : Typing} {r : Typed} {c s w : List ℕ} {f : Refusal} (k : ℕ → ℕ → State → Ans)
-    → typed_as r c s w ≡ a → r ≡ typed.Refused f → ran (Refused f) c s w ≡ (a gives k)
+    → typed_as r c s w ≡ a → r ≡ Err f → ran (Err f) c s w ≡ (a gives k)
 unfolding ◌gives◌
 typed_none {c = c} {s = s} {w = w} k h d =
     sym (ap (λ (r : Typed). cont_with r (st c s w) k) d) ∙ ap (λ (a : Typing). cont_with a.typed a.st k) h
@@ -53,6 +50,9 @@ resolves_to {x = x} {c = c} {d = d} {s = s} {w = w} k h e =
 
 pub is : {r q : Step} {c s w : List ℕ} → r ≡ q → ran r c s w ≡ ran q c s w
 is {c = c} {s = s} {w = w} h = ap (λ (r : Step). ran r c s w) h
+
+pub is_typed : {r q : Typed} {c s w : List ℕ} → r ≡ q → typed_as r c s w ≡ typed_as q c s w
+is_typed {c = c} {s = s} {w = w} h = ap (λ (r : Typed). typed_as r c s w) h
 
 -- ---- the layers below
 
@@ -67,3 +67,23 @@ pub made_type : {n : ℕ} {kind : Kind} {xs ys : List ℕ} {u : Made} → Makes 
 unfolding fresh_type
 made_type {n = n} {kind = kind} {ys = ys} h {r = r} e s w =
     ap (λ (r : Typed). typed_as r ys s w) (e ∙ ap (typed_made n) h.answer) ∙ ap (λ (l : List ℕ). typed_as (typed_made n (fresh_answer n kind)) l s w) h.cells
+
+-- ---- a fault that was found, or what was decided
+
+module _ {F : Type 0} (refused : F → Ans) (next : Ans) {found : Option F} where
+  pub none_found : {z : Ans} → found ≡ None → z ≡ next → z ≡ refusing refused next found
+  unfolding refusing
+  none_found e h = rw e h
+
+  pub fault_found : {z : Ans} {f : F} → found ≡ Some f → z ≡ refused f → z ≡ refusing refused next found
+  unfolding refusing
+  fault_found e h = rw e h
+
+module _ {A : Type 0} (refused : Fault → Ans) (next : A → Ans) {decided : Result A Fault} where
+  pub was_decided : {z : Ans} {x : A} → decided ≡ Ok x → z ≡ next x → z ≡ deciding refused next decided
+  unfolding deciding
+  was_decided e h = rw e h
+
+  pub was_refused : {z : Ans} {f : Fault} → decided ≡ Err f → z ≡ refused f → z ≡ deciding refused next decided
+  unfolding deciding
+  was_refused e h = rw e h

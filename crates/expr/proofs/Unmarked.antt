@@ -17,9 +17,9 @@ use Rattle.pack.specs.declared.counts.Counts.{Counts}
 use Rattle.members.specs.Lookup.{name_at, member_of}
 use Rattle.members.specs.Marks.{is_marked, any_marked, any_field_marked}
 use Rattle.members.specs.Field.{accessed_by}
-use Rattle.members.specs.declared.answer.Accessed.TheVariants as accessed
 use Rattle.members.proofs.Counts.{any_none}
 use Rattle.members.proofs.Promises.{member_below, Unmarked, field_unmarked}
+use Rattle.std.proofs.Common.{Ok, None}
 use Rattle.arms.specs.Match.{wild, arm_fault}
 use Rattle.arms.proofs.Promises.{payload_right, arm_right}
 use Rattle.records.specs.Record.{record_fault}
@@ -46,7 +46,7 @@ module _ (p : List ℕ) (c : Counts) (marks : List ℕ) where
     pub long : list_len p c slots ≡ list_len p c fields
     pub unmarked : (k : ℕ) → k < list_len p c fields → is_marked marks (list_item p c fields k) ≡ false
 
-  pub arm_unmarked : (list name slots : ℕ) → arm_fault p c marks list name (suc slots) ≡ 0 → eqb name wild ≡ false → Payload slots (member_of p c list name)
+  pub arm_unmarked : (list name slots : ℕ) → arm_fault p c marks list name (suc slots) ≡ None → eqb name wild ≡ false → Payload slots (member_of p c list name)
   unfolding any_marked
   arm_unmarked list name slots e f =
       let q = payload_right p c marks (member_of p c list name) slots (arm_right p c marks list name (suc slots) e (eqb-false name wild f)).1 in
@@ -54,7 +54,7 @@ module _ (p : List ℕ) (c : Counts) (marks : List ℕ) where
 
   -- ---- record
 
-  pub record_unmarked : (d fields : ℕ) → (record_fault p c marks d fields).number ≡ 0
+  pub record_unmarked : (d fields : ℕ) → record_fault p c marks d fields ≡ None
       → (j : ℕ) → j < list_len p c fields → is_marked marks (member_of p c (definition_row p c d).list (name_at p c fields j)) ≡ false
   unfolding any_field_marked member_of
   record_unmarked d fields e j h =
@@ -63,5 +63,5 @@ module _ (p : List ℕ) (c : Counts) (marks : List ℕ) where
 
   -- ---- field
 
-  pub accessed_unmarked : (x name t : ℕ) → accessed_by p c marks x name ≡ accessed.Type t → is_marked marks t ≡ false
-  accessed_unmarked x name t e = let k : Unmarked marks (accessed.Type t) = rw e at (field_unmarked p c marks name x) in k
+  pub accessed_unmarked : (x name t : ℕ) → accessed_by p c marks x name ≡ Ok t → is_marked marks t ≡ false
+  accessed_unmarked x name t e = let k : Unmarked marks (Ok t) = rw e at (field_unmarked p c marks name x) in k

@@ -27,22 +27,23 @@ use Rattle.trees.specs.Nodes.{max_depth}
 use Rattle.formed.proofs.Promises.{WellFormed}
 use Rattle.words.specs.Notes.{nodes, note_of, code_noted, is_seen}
 use Rattle.words.proofs.Noting.{seen_noted}
-use Rattle.expr.specs.State.{Env, State, Ans, cont, ◌then◌, refuse}
+use Rattle.laws.specs.declared.fault.Fault.{Fault}
+use Rattle.laws.specs.declared.fault.Fault.TheVariants.{TooDeep, StrayLet}
+use Rattle.expr.specs.State.{Env, State, Ans, cont, ◌then◌, refuse, Step}
 use Rattle.expr.specs.Rules.{recorded, sealed, expr_rule}
 use Rattle.report.specs.Visits.{sum, tree_of}
 use Rattle.expr.specs.declared.answer.Outcome.{Outcome}
-use Rattle.expr.specs.declared.answer.Step.{Step}
-use Rattle.expr.specs.declared.answer.Step.TheVariants.{Done, Refused}
 use Rattle.expr.proofs.Walk.{Laws, Runs, Statements}
 use Rattle.expr.proofs.Walks.{node_holds}
 use Rattle.expr.proofs.Nodes.{each_in, statement_kid, operand_kid, kid_inside, let_kids}
 use Rattle.expr.proofs.Trees.{tree_at, tree_below}
+use Rattle.std.proofs.Common.{Ok, Err}
 
 -- ---- one node
 
 abbrev Accepted : Step → Type 0
-Accepted (Done o) = Unit {0}
-Accepted (Refused f) = ⊥
+Accepted (Ok o) = Unit {0}
+Accepted (Err f) = ⊥
 
 -- y is seen in the notes
 abbrev pub SeenIn : ℕ → List ℕ → Type 0
@@ -73,7 +74,7 @@ module _ (y : ℕ) where
   visits_then {n = n} {m = m} {w = w} {a = a} {b = b} {j = j} {k = k} h f = go a.step h.sees
     where
       go : (r : Step) → (Room y w → (n ≡ 0 → ⊥) → Accepted r → SeenIn y a.st.notes) → Visits y (n + m) w (cont r a.st j) (cont b.step b.st k)
-      go (Done o) g =
+      go (Ok o) g =
           let q = f o a.st in
           record {
             room = λ x. q.room (h.room x);
@@ -81,7 +82,7 @@ module _ (y : ℕ) where
             keeps = λ x t. q.keeps (h.room x) (h.keeps x t);
             sees = λ x z d. by_eq n 0 (λ e. q.sees (h.room x) (λ v. z (omega (arith, e, v))) d) (λ v. q.keeps (h.room x) (g x v tt));
           }
-      go (Refused e) g = record { room = h.room; away = λ z. h.away (omega (arith, z)); keeps = h.keeps; sees = λ x z d. absurd d }
+      go (Err e) g = record { room = h.room; away = λ z. h.away (omega (arith, z)); keeps = h.keeps; sees = λ x z d. absurd d }
 
   -- a note that is stored at id
   stored_room : (w : List ℕ) (id v : ℕ) → Room y w → Room y (put nodes w id v)
@@ -121,8 +122,8 @@ module _ (y : ℕ) where
   }
 
   -- refused, where the step began
-  refused_visits : {n : ℕ} (number place : ℕ) (s : State) → Visits y n s.notes (refuse number place s) (refuse number place s)
-  refused_visits number place s = record { room = λ x. x; away = λ z. refl; keeps = λ x t. t; sees = λ x z d. absurd d }
+  refused_visits : {n : ℕ} (fault : Fault) (place : ℕ) (s : State) → Visits y n s.notes (refuse fault place s) (refuse fault place s)
+  refused_visits fault place s = record { room = λ x. x; away = λ z. refl; keeps = λ x t. t; sees = λ x z d. absurd d }
 
 -- ---- the checker
 
@@ -147,7 +148,7 @@ module _ (e : Env) (f : WellFormed e.p e.c) (y : ℕ) where
 
   pub expr_visits : (left : ℕ) → Runs (Visits y) times Inside (expr_rule left e) (expr_rule left e)
   unfolding expr_rule
-  expr_visits zero = record { holds = λ id want vars s l. refused_visits y 13 id s }
+  expr_visits zero = record { holds = λ id want vars s l. refused_visits y TooDeep id s }
   expr_visits (suc left) = record {
     holds =
         λ id want vars s l.
@@ -155,7 +156,7 @@ module _ (e : Env) (f : WellFormed e.p e.c) (y : ℕ) where
         (node_holds (visits_laws y) e times Inside Inside statements _ _ (expr_visits left) id want vars s
         (each_in Inside (statements_of e.p e.c id) (λ k m. kid_inside e.p e.c f id l k (statement_kid e.p e.c f id l k m)))
         (each_in Inside (operands_of e.p e.c id) (λ k m. kid_inside e.p e.c f id l k (operand_kid e.p e.c f id l k m)))
-        (λ m t q. refused_visits y 15 id t));
+        (λ m t q. refused_visits y StrayLet id t));
   }
 
   -- ---- as it is used
@@ -173,7 +174,7 @@ module _ (e : Env) (f : WellFormed e.p e.c) (y : ℕ) where
     pub never_unseen : y < nodes → length s.notes ≡ nodes → is_seen (get nodes s.notes y) ≡ true → is_seen (get nodes answer.st.notes y) ≡ true
     never_unseen m x t = visited.keeps (record { node = m; long = x }) t
 
-    pub all_seen : {o : Outcome} → length s.notes ≡ nodes → answer.step ≡ Done o → In y (tree_of max_depth e.p e.c id) → is_seen (get nodes answer.st.notes y) ≡ true
+    pub all_seen : {o : Outcome} → length s.notes ≡ nodes → answer.step ≡ Ok o → In y (tree_of max_depth e.p e.c id) → is_seen (get nodes answer.st.notes y) ≡ true
     all_seen x d i = visited.sees (record { node = below; long = x }) (λ z. omega (arith, z, i)) (subst Accepted (sym d) tt)
       where
         below : y < nodes

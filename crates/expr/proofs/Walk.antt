@@ -14,27 +14,26 @@ use Prim.Native.Nat.{ℕ, zero, suc, ◌+◌, ◌≤◌}
 use native.Mathlib.Omega.{arith}
 use Rattle.laws.specs.Choice.{pick, letting}
 use Rattle.pack.specs.Rows.{expression_row}
+use Rattle.laws.specs.Faults.{number_of, refusal}
+use Rattle.laws.specs.declared.fault.Fault.{Fault}
 use Rattle.laws.specs.declared.refusal.Refusal.{Refusal}
 use Rattle.pack.specs.declared.counts.Counts.{Counts}
 use Rattle.unionfind.specs.declared.codes.Kind.{Kind}
 use Rattle.unionfind.specs.declared.codes.Kind.TheVariants.{Var}
-use Rattle.expr.specs.State.{Env, State, Ans, Typing, outcome, done, refuse_with, ◌then◌, cont_with, ◌gives◌, resolving, fresh_type, unify_step}
+use Rattle.expr.specs.State.{Env, State, Ans, Typing, outcome, done, refuse_with, ◌then◌, cont_with, ◌gives◌, resolving, fresh_type, unify_step, Step, Typed}
 use Rattle.expr.specs.Rules.{Run, recorded, sealed, let_type, operand_type}
 use Rattle.report.specs.Visits.{sum}
 use Rattle.expr.specs.declared.answer.Outcome.{Outcome}
-use Rattle.expr.specs.declared.answer.Step.{Step}
-use Rattle.expr.specs.declared.answer.Step.TheVariants.{Done, Refused}
-use Rattle.expr.specs.declared.answer.Typed.{Typed}
-use Rattle.expr.specs.declared.answer.Typed.TheVariants as typed
 use Rattle.expr.proofs.Unmarked.{chosen, named}
 use Rattle.expr.proofs.Numbers.{least, Late, LateType, unify_late, fresh_late}
+use Rattle.std.proofs.Common.{Ok, Err}
 
 pub record Laws (P : ℕ → List ℕ → Ans → Ans → Type 0) (own : ℕ → ℕ) : Type 0 where
   -- it matters only whether the count is 0
   pub counts : {n m : ℕ} {w : List ℕ} {a b : Ans} → (n ≡ 0 → m ≡ 0) → (m ≡ 0 → n ≡ 0) → P n w a b → P m w a b
   -- a rule that ends: accepted, or refused by a number of module 4
-  pub ends : (o : Outcome) (s : State) → P 0 s.notes (record { step = Done o; st = s }) (record { step = Done o; st = s })
-  pub refuses : {n : ℕ} (f : Refusal) (s : State) → least ≤ f.number → P n s.notes (record { step = Refused f; st = s }) (record { step = Refused f; st = s })
+  pub ends : (o : Outcome) (s : State) → P 0 s.notes (record { step = Ok o; st = s }) (record { step = Ok o; st = s })
+  pub refuses : {n : ℕ} (f : Refusal) (s : State) → least ≤ number_of f.fault → P n s.notes (record { step = Err f; st = s }) (record { step = Err f; st = s })
   -- steps one after the other
   pub thens : {n m : ℕ} {w : List ℕ} {a b : Ans} {j k : Outcome → State → Ans} → P n w a b → ((o : Outcome) (s : State) → P m s.notes (j o s) (k o s)) → P (n + m) w (a then j) (b then k)
   -- what is noted of a node counts as that node
@@ -94,8 +93,8 @@ module _ {P : ℕ → List ℕ → Ans → Ans → Type 0} {own : ℕ → ℕ} (
   pub dones : {w : List ℕ} {d : Bool} {call vars : ℕ} {s : State} → s.notes ≡ w → P 0 w (done d call vars s) (done d call vars s)
   dones {d = d} {call = call} {vars = vars} {s = s} e = rw (← e) (l.ends (outcome d call vars) s)
 
-  pub refused : {n : ℕ} {w : List ℕ} {s : State} (number place detail : ℕ) → s.notes ≡ w → least ≤ number → P n w (refuse_with number place detail s) (refuse_with number place detail s)
-  refused {s = s} number place detail e h = rw (← e) (l.refuses (record { number = number; place = place; detail = detail }) s h)
+  pub refused : {n : ℕ} {w : List ℕ} {s : State} (fault : Fault) (place detail : ℕ) → s.notes ≡ w → least ≤ number_of fault → P n w (refuse_with fault place detail s) (refuse_with fault place detail s)
+  refused {s = s} fault place detail e h = rw (← e) (l.refuses (refusal fault place detail) s h)
 
   pub picks : {n : ℕ} {w : List ℕ} (b : Bool) {x y u v : Ans} → (b ≡ true → P n w x u) → (b ≡ false → P n w y v) → P n w (pick b x y) (pick b u v)
   unfolding pick
@@ -111,8 +110,8 @@ module _ {P : ℕ → List ℕ → Ans → Ans → Type 0} {own : ℕ → ℕ} (
   givens {n = n} {a = a} {j = j} {k = k} h f = rw (← h.same) (go a.typed h.late)
     where
       go : (r : Typed) → LateType r → P n a.st.notes (cont_with r a.st j) (cont_with r a.st k)
-      go (typed.Type x vars) h = f x vars a.st
-      go (typed.Refused e) h = l.refuses e a.st h
+      go (Ok t) h = f t.code t.vars a.st
+      go (Err e) h = l.refuses e a.st h
 
   pub resolved : {n : ℕ} (x : ℕ) (s : State) {j k : ℕ → State → Ans} → ((y : ℕ) (t : State) → P n t.notes (j y t) (k y t)) → P n s.notes (resolving x s j) (resolving x s k)
   unfolding resolving
@@ -123,8 +122,8 @@ module _ {P : ℕ → List ℕ → Ans → Ans → Type 0} {own : ℕ → ℕ} (
   steps a h = go a.step h
     where
       go : (r : Step) → Late r → P 0 a.st.notes (record { step = r; st = a.st }) (record { step = r; st = a.st })
-      go (Done o) h = l.ends o a.st
-      go (Refused f) h = l.refuses f a.st h
+      go (Ok o) h = l.ends o a.st
+      go (Err f) h = l.refuses f a.st h
 
   pub unified : (marks : List ℕ) (at left right vars : ℕ) (s : State) → P 0 s.notes (unify_step marks at left right vars s) (unify_step marks at left right vars s)
   unfolding unify_step

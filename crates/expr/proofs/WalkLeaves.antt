@@ -8,8 +8,9 @@ use native.Mathlib.Omega.{arith}
 use Rattle.pack.specs.declared.rows.ExpressionRow.{ExpressionRow}
 use Rattle.unionfind.specs.declared.codes.Kind.{Kind}
 use Rattle.unionfind.specs.declared.codes.Kind.TheVariants.{IntVar, FloatVar}
-use Rattle.members.specs.declared.answer.Accessed.{Accessed}
-use Rattle.members.specs.declared.answer.Accessed.TheVariants as accessed
+use Rattle.laws.specs.declared.fault.Fault.TheVariants.{SlotNotOpen, HoldsVariable}
+use Rattle.members.specs.Field.{Accessed}
+use Rattle.std.proofs.Common.{Ok, Err}
 use Rattle.expr.specs.State.{Env, State, Ans}
 use Rattle.expr.specs.Rules.{bare_rule, literal_rule, slot_rule, bool_first, result_last, field_type_rule, accessed_rule}
 use Rattle.expr.proofs.Numbers.{LateAccessed}
@@ -29,7 +30,7 @@ module _ {P : ℕ → List ℕ → Ans → Ans → Type 0} {own : ℕ → ℕ} (
 
   pub slot_holds : (marks : List ℕ) (id : ℕ) (n : ExpressionRow) (want vars : ℕ) (s : State) → P 0 s.notes (slot_rule marks id n want vars s) (slot_rule marks id n want vars s)
   unfolding slot_rule
-  slot_holds marks id n want vars s = lets l _ _ _ (picks l _ (λ t. unified l marks id want _ vars s) (λ f. refused l 33 id 0 refl (omega arith)))
+  slot_holds marks id n want vars s = lets l _ _ _ (picks l _ (λ t. unified l marks id want _ vars s) (λ f. refused l SlotNotOpen id 0 refl (omega arith)))
 
   pub first_holds : (marks : List ℕ) (id op want vars : ℕ) (s : State) → P 0 s.notes (bool_first marks id op want vars s) (bool_first marks id op want vars s)
   unfolding bool_first
@@ -46,5 +47,5 @@ module _ {P : ℕ → List ℕ → Ans → Ans → Type 0} {own : ℕ → ℕ} (
   pub accessed_holds : (e : Env) (id want : ℕ) (d : Bool) (vars : ℕ) (s : State) (a : Accessed) → LateAccessed a
       → P 0 s.notes (accessed_rule e id want d vars s a) (accessed_rule e id want d vars s a)
   unfolding field_type_rule
-  accessed_holds e id want d vars s (accessed.Fault number) h = refused l number id 0 refl h
-  accessed_holds e id want d vars s (accessed.Type t) h = lets l _ _ _ (none (l.thens (unified l e.marks id want _ vars s) λ u s. dones l refl))
+  accessed_holds e id want d vars s (Err fault) h = refused l fault id 0 refl h
+  accessed_holds e id want d vars s (Ok t) h = lets l _ _ _ (none (l.thens (unified l e.marks id want _ vars s) λ u s. dones l refl))

@@ -24,6 +24,8 @@ use Rattle.members.specs.Field.{accessed_by}
 use Rattle.arms.specs.Match.{subject_of}
 use Rattle.arms.specs.declared.answer.Subject.{Subject}
 use Rattle.arms.specs.declared.answer.Subject.TheVariants as subject
+use Rattle.expr.proofs.Decided.{both_found, both_recorded, both_decided}
+use Rattle.laws.specs.declared.fault.Fault.TheVariants.{StrayLet, ExamineeDiverges, NotAnEnum, ArmAfterAny, NotExhaustive, SlotBoundBefore, NotPlain}
 use Rattle.expr.specs.State.{Env, State, Ans, with_notes, refuse}
 use Rattle.expr.specs.Rules.{Run, recorded, let_rule, stmt_rule, stmts_rule, last_rule, block_rule, right_rule, operator_rule, guard_rule, body_rule, arm_rule, arms_rule, cases_rule, subject_rule, match_rule, fields_rule, record_rule, field_rule, returned_rule, return_rule, kind_rule, node_rule}
 use Rattle.report.specs.Visits.{sum}
@@ -41,7 +43,7 @@ module _ {P : ℕ → List ℕ → Ans → Ans → Type 0} {own : ℕ → ℕ} (
       l.thens (r.holds n.b x vars s h) λ o s.
       lets l _ _ _ (lets l _ _ _ (picks l _
       (λ t. lets l _ _ _ (l.seals id o.diverges 0 (dones l refl)))
-      (λ f. refused l 34 id 0 refl (omega arith)))))))
+      (λ f. refused l SlotBoundBefore id 0 refl (omega arith)))))))
 
   -- ---- block
 
@@ -84,11 +86,11 @@ module _ {P : ℕ → List ℕ → Ans → Ans → Type 0} {own : ℕ → ℕ} (
   unfolding right_rule
   right_holds id n want own d vars s h =
       resolved l own s λ x s.
-      lets l _ _ _ (lets l _ _ _ (picks l _
-      (λ t. l.thens (r.holds n.b _ vars s h) λ o s.
+      lets l _ _ _ (lets l _ _ _ (both_decided (P _ s.notes) _ _ _ _ _ (plan_late n.op own x _)
+      (λ plan. l.thens (r.holds n.b _ vars s h) λ o s.
       none l (l.thens (result_holds l e.marks id n.op want _ o.vars s) λ u s.
       lets l _ _ _ (dones l refl)))
-      (λ f. refused l _ n.a 0 refl (plan_late n.op own x _ (eqb-false _ 0 f)))))
+      (λ f late. refused l f n.a 0 refl late)))
 
   operator_holds : (id : ℕ) (n : ExpressionRow) (want vars : ℕ) (s : State) → Each Fine (n.a ∷ n.b ∷ [])
       → P (sum count (n.a ∷ n.b ∷ [])) s.notes (operator_rule run e id n want vars s) (operator_rule also e id n want vars s)
@@ -123,11 +125,11 @@ module _ {P : ℕ → List ℕ → Ans → Ans → Type 0} {own : ℕ → ℕ} (
       → P (sum count (arm_kids e.p e.c arms k)) s.notes (arm_rule run e id list arms k want vars s) (arm_rule also e id list arms k want vars s)
   unfolding arm_rule
   arm_holds id list arms k want vars s h =
-      lets l _ _ _ (lets l _ _ _ (lets l _ _ _ (picks l _
-      (λ t. lets l _ _ _ (picks l _
+      lets l _ _ _ (lets l _ _ _ (lets l _ _ _ (both_found (P _ s.notes) _ _ _ _ _ (arm_late e.p e.c e.marks list _ _)
+      (lets l _ _ _ (picks l _
       (λ ok. body_holds arms k _ want vars _ h)
-      (λ f. refused l 34 id 0 refl (omega arith))))
-      (λ f. refused l _ id 0 refl (arm_late e.p e.c e.marks list _ _ (eqb-false _ 0 f))))))
+      (λ f. refused l SlotBoundBefore id 0 refl (omega arith))))
+      (λ f late. refused l f id 0 refl late))))
 
   arms_holds : (id list arms left k : ℕ) (ended d : Bool) (want vars : ℕ) (s : State) → Each Fine (gather (arm_kids e.p e.c arms) k left)
       → P (sum count (gather (arm_kids e.p e.c arms) k left)) s.notes (arms_rule run e id list arms left k ended d want vars s) (arms_rule also e id list arms left k ended d want vars s)
@@ -137,7 +139,7 @@ module _ {P : ℕ → List ℕ → Ans → Ans → Type 0} {own : ℕ → ℕ} (
       let rest = gather (arm_kids e.p e.c arms) (suc k) left in
       let q = each_append Fine (arm_kids e.p e.c arms k) rest h in
       let w = sum_append count (arm_kids e.p e.c arms k) rest in
-      picks l _ (λ t. lets l _ _ _ (refused l 25 _ 0 refl (omega arith)))
+      picks l _ (λ t. lets l _ _ _ (refused l ArmAfterAny _ 0 refl (omega arith)))
       (λ f. l.counts (λ z. omega (arith, z, w)) (λ z. omega (arith, z, w)) (l.thens {m = sum count rest} (arm_holds id list arms k want vars s q.0) λ o s.
       lets l _ _ _ (lets l _ _ _ (rw (add-one k) (arms_holds id list arms left (suc k) _ (d && o.diverges) want o.vars s q.1)))))
 
@@ -146,12 +148,12 @@ module _ {P : ℕ → List ℕ → Ans → Ans → Type 0} {own : ℕ → ℕ} (
   unfolding cases_rule
   cases_holds id list arms want vars s h =
       l.counts (λ z. omega (arith, z)) (λ z. omega (arith, z)) (lets l _ _ _ (l.thens (arms_holds id list arms _ 0 false true want vars s h) λ o s.
-      lets l _ _ _ (picks l _ (λ t. dones l refl) (λ f. refused l 30 id _ refl (omega arith)))))
+      lets l _ _ _ (picks l _ (λ t. dones l refl) (λ f. refused l NotExhaustive id _ refl (omega arith)))))
 
   subject_holds : (id : ℕ) (n : ExpressionRow) (want vars : ℕ) (s : State) (x : Subject) → Each Fine (gather (arm_kids e.p e.c n.b) 0 (list_len e.p e.c n.b))
       → P (sum count (gather (arm_kids e.p e.c n.b) 0 (list_len e.p e.c n.b))) s.notes (subject_rule run e id n want vars s x) (subject_rule also e id n want vars s x)
-  subject_holds id n want vars s subject.Other h = refused l 24 n.a 0 refl (omega arith)
-  subject_holds id n want vars s subject.Generic h = refused l 36 id 0 refl (omega arith)
+  subject_holds id n want vars s subject.Other h = refused l NotAnEnum n.a 0 refl (omega arith)
+  subject_holds id n want vars s subject.Generic h = refused l NotPlain id 0 refl (omega arith)
   subject_holds id n want vars s (subject.Enum list) h = cases_holds id list n.b want vars s h
 
   match_holds : (id : ℕ) (n : ExpressionRow) (want vars : ℕ) (s : State) → Each Fine (n.a ∷ gather (arm_kids e.p e.c n.b) 0 (list_len e.p e.c n.b))
@@ -160,7 +162,7 @@ module _ {P : ℕ → List ℕ → Ans → Ans → Type 0} {own : ℕ → ℕ} (
   match_holds id n want vars s h =
       givens l (fresh_asks Var vars s) λ own vars s.
       l.thens (r.holds n.a own vars s h.0) λ o s.
-      picks l _ (λ t. refused l 23 n.a 0 refl (omega arith))
+      picks l _ (λ t. refused l ExamineeDiverges n.a 0 refl (omega arith))
       (λ f. resolved l own s λ x s.
       lets l _ _ _ (subject_holds id n want o.vars s (subject_of e.p e.c x) h.1))
 
@@ -181,10 +183,10 @@ module _ {P : ℕ → List ℕ → Ans → Ans → Type 0} {own : ℕ → ℕ} (
       → P (sum count (seconds_of e.p e.c n.b)) s.notes (record_rule run e id n want vars s) (record_rule also e id n want vars s)
   unfolding record_rule seconds_of
   record_holds id n want vars s h =
-      lets l _ _ _ (picks l _
-      (λ t. l.counts (λ z. omega (arith, z)) (λ z. omega (arith, z)) (lets l _ _ _ (lets l _ _ _ (l.thens (fields_holds _ n.b _ 0 false vars s h) λ o s.
+      lets l _ _ _ (both_recorded (P _ s.notes) _ _ _ _ _ (record_late e.p e.c e.marks n.a n.b)
+      (l.counts (λ z. omega (arith, z)) (λ z. omega (arith, z)) (lets l _ _ _ (lets l _ _ _ (l.thens (fields_holds _ n.b _ 0 false vars s h) λ o s.
       lets l _ _ _ (l.thens (unified l e.marks id want _ o.vars s) λ u s. dones l refl)))))
-      (λ f. refused l _ id _ refl (record_late e.p e.c e.marks n.a n.b (eqb-false _ 0 f))))
+      (λ f late. refused l f.fault id f.detail refl late))
 
   -- ---- field
 
@@ -221,7 +223,7 @@ module _ {P : ℕ → List ℕ → Ans → Ans → Type 0} {own : ℕ → ℕ} (
 
   -- a kind that no rule has
   abbrev pub Stray : ℕ → ℕ → Type 0
-  Stray id kind = (m : ℕ) (t : State) → (kind ≡ 3) ⊎ (9 ≤ kind) → P m t.notes (refuse 15 id t) (refuse 15 id t)
+  Stray id kind = (m : ℕ) (t : State) → (kind ≡ 3) ⊎ (9 ≤ kind) → P m t.notes (refuse StrayLet id t) (refuse StrayLet id t)
 
   kind_holds : (id : ℕ) (n : ExpressionRow) (want vars : ℕ) (s : State) → Each Stated (row_statements e.p e.c n) → Each Fine (row_operands e.p e.c n) → Stray id n.kind
       → P (own id + (sum count (row_statements e.p e.c n) + sum count (row_operands e.p e.c n))) s.notes

@@ -1,10 +1,11 @@
 -- A root: "Root first: 35 over parameters and return type, then 34." Then its body, against its return type; and what a report writes.
-use Rattle.std.specs.Prelude.{ℕ, ◌*◌, ◌<◌, ◌≤◌, ◌≡◌, ◌||◌, List, [], ◌∷◌, ltb, length, replicate}
+use Rattle.std.specs.Prelude.{ℕ, ◌*◌, ◌<◌, ◌≤◌, ◌≡◌, ◌||◌, List, [], ◌∷◌, ltb, length, replicate, Result, Ok, Err}
+use Rattle.laws.specs.declared.fault.Fault.TheVariants.{SlotBoundBefore, HoldsVariable}
+use Rattle.laws.specs.declared.refusal.Refusal.{Refusal}
 use Rattle.laws.specs.Choice.{pick, letting}
 use Rattle.laws.specs.Lists.{bit, gather}
 use Rattle.pack.specs.Rows.{root_row}
 use Rattle.pack.specs.declared.counts.Counts.{Counts}
-use Rattle.pack.specs.declared.answer.Reading.TheVariants.{Pack}
 use Rattle.formed.specs.Formed.{formed_of}
 use Rattle.trees.specs.Nodes.{max_depth}
 use Rattle.unionfind.specs.Cells.{capacity}
@@ -16,12 +17,8 @@ use Rattle.members.specs.Marks.{is_marked, any_field_marked}
 use Rattle.slots.specs.Slots.{slots, open_pairs}
 use Rattle.words.specs.Notes.{nodes}
 use Rattle.words.specs.Words.{words_area}
-use Rattle.expr.specs.State.{env, State, Ans, st, refuse}
+use Rattle.expr.specs.State.{env, State, Ans, st, refuse, Step}
 use Rattle.expr.specs.Rules.{expr_rule}
-use Rattle.expr.specs.declared.answer.Step.{Step}
-use Rattle.expr.specs.declared.answer.Step.TheVariants.{Done, Refused}
-use Rattle.expr.specs.declared.answer.Checked.{Checked}
-use Rattle.expr.specs.declared.answer.Checked.TheVariants as checked
 
 -- ---- the type table by structure, from the pack
 
@@ -42,24 +39,27 @@ unfoldable pub root_rule : List ℕ → Counts → List ℕ → List ℕ → ℕ
 root_rule p c same marks root =
     letting (root_row p c root) λ r.
     pick (is_marked marks r.returns || any_field_marked p c marks r.list)
-    (refuse 35 r.body (start (replicate slots 0)))
+    (refuse HoldsVariable r.body (start (replicate slots 0)))
     (letting (code_in p c same r.returns) λ ret.
     letting (open_pairs p c same r.list (replicate slots 0)) λ o.
     pick o.ok
     (expr_rule max_depth (env p c same marks ret) r.body ret 0 (start o.slots))
-    (refuse 34 r.body (start o.slots)))
+    (refuse SlotBoundBefore r.body (start o.slots)))
 
 -- ---- answering
 
 -- "either a report or a refusal"
+abbrev pub Checked : Type 0
+Checked = Result (Unit {0}) Refusal
+
 abbrev pub checked_as : Step → Checked
-checked_as (Done o) = checked.Report
-checked_as (Refused f) = checked.Refused f
+checked_as (Ok o) = Ok tt
+checked_as (Err f) = Err f
 
 -- "A refusal leaves the result area unchanged. A root's report writes 4 bytes at 4·id for each node of that root"
 abbrev pub written : Counts → Step → State → List ℕ → List ℕ
-written c (Done o) s area = words_area s.cells s.notes c.expressions area
-written c (Refused f) s area = area
+written c (Ok o) s area = words_area s.cells s.notes c.expressions area
+written c (Err f) s area = area
 
 -- from a table
 unfoldable pub root_answer_in : List ℕ → Counts → List ℕ → List ℕ → ℕ → Checked
@@ -84,12 +84,12 @@ pub record Blank (xs ws : List ℕ) : Type 0 where
 
 -- after a report they are as they were, after a refusal as the rule left them
 abbrev pub cells_after : Step → State → List ℕ
-cells_after (Done o) s = selves 0 capacity
-cells_after (Refused f) s = s.cells
+cells_after (Ok o) s = selves 0 capacity
+cells_after (Err f) s = s.cells
 
 abbrev pub notes_after : Step → State → List ℕ
-notes_after (Done o) s = replicate nodes 0
-notes_after (Refused f) s = s.notes
+notes_after (Ok o) s = replicate nodes 0
+notes_after (Err f) s = s.notes
 
 unfoldable pub root_cells_in : List ℕ → Counts → List ℕ → List ℕ → ℕ → List ℕ
 root_cells_in p c same marks root = cells_after (root_rule p c same marks root).step (root_rule p c same marks root).st
@@ -107,7 +107,7 @@ root_notes p c root = root_notes_in p c (same_of p c) (marks_of p c) root
 
 -- the pack is well-formed and has this root, the table is that of the pack, whose rows refer to smaller ones only, and the area is long enough
 pub record Checks (p : List ℕ) (c : Counts) (same marks : List ℕ) (root : ℕ) (area : List ℕ) : Type 0 where
-  pub formed : formed_of p ≡ Pack c
+  pub formed : formed_of p ≡ Ok c
   pub inside : root < c.roots
   pub table : Numbers p c same marks
   pub small : PartsSmaller p c

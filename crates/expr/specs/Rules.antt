@@ -3,9 +3,11 @@
 -- 26 to 32, 36: the node. 35: let, body or node."
 -- One rule a kind of node, its tests in document 01's order. A rule is given the checker of its parts (`Run`), so that `expr_rule` alone
 -- recurses, on the depth left. `want` is the expected type's code; `vars` variables are in use.
-use Rattle.std.specs.Prelude.{ℕ, zero, suc, ◌+◌, ◌-◌, ◌*◌, ◌%◌, eqb, leb, Bool, true, false, ◌&&◌, ◌||◌, List}
+use Rattle.std.specs.Prelude.{ℕ, zero, suc, ◌+◌, ◌-◌, ◌*◌, ◌%◌, eqb, leb, Bool, true, false, ◌&&◌, ◌||◌, List, Ok, Err}
 use Rattle.laws.specs.Choice.{pick, letting}
 use Rattle.laws.specs.Bounded.{get, put}
+use Rattle.laws.specs.Faults.{refusal}
+use Rattle.laws.specs.declared.fault.Fault.TheVariants.{TooDeep, StrayLet, ExamineeDiverges, NotAnEnum, ArmAfterAny, NotExhaustive, SlotNotOpen, SlotBoundBefore, HoldsVariable, NotPlain}
 use Rattle.pack.specs.Lists.{list_len, list_item}
 use Rattle.pack.specs.Rows.{definition_row, expression_row}
 use Rattle.pack.specs.declared.counts.Counts.{Counts}
@@ -14,22 +16,19 @@ use Rattle.unionfind.specs.Codes.{numbers, code, unit_tag, primitive_tag, defini
 use Rattle.unionfind.specs.declared.codes.Kind.{Kind}
 use Rattle.unionfind.specs.declared.codes.Kind.TheVariants.{Var, IntVar, FloatVar}
 use Rattle.structure.specs.Types.{code_in}
+use Rattle.operators.specs.Names.{call_number}
 use Rattle.operators.specs.Operators.{bool_code, operator_plan}
 use Rattle.members.specs.Types.{is_list}
 use Rattle.members.specs.Lookup.{member_of}
 use Rattle.members.specs.Marks.{is_marked}
-use Rattle.members.specs.Field.{accessed_by}
-use Rattle.members.specs.declared.answer.Accessed.{Accessed}
-use Rattle.members.specs.declared.answer.Accessed.TheVariants as accessed
+use Rattle.members.specs.Field.{Accessed, accessed_by}
 use Rattle.arms.specs.Match.{wild, subject_of, arm_fault, missing_variants}
 use Rattle.arms.specs.declared.answer.Subject.{Subject}
 use Rattle.arms.specs.declared.answer.Subject.TheVariants as subject
 use Rattle.records.specs.Record.{record_fault}
 use Rattle.slots.specs.Slots.{slots as slot_count, unbound, opened, Opening, open_list, close_list, close_lets}
 use Rattle.words.specs.Notes.{nodes, note_of, code_noted}
-use Rattle.expr.specs.State.{Env, State, Ans, Typing, with_slots, with_notes, done, refuse, refuse_with, ◌then◌, ◌gives◌, resolving, fresh_type, unify_step}
-use Rattle.expr.specs.declared.answer.Step.TheVariants.{Done}
-use Rattle.expr.specs.declared.answer.Typed.TheVariants as typed
+use Rattle.expr.specs.State.{Env, State, Ans, Typing, with_slots, with_notes, done, refuse, refuse_with, refusing, deciding, ◌then◌, ◌gives◌, resolving, fresh_type, unify_step, expected}
 
 -- a checker of an expression: its id, the expected type, how many variables are in use
 abbrev pub Run : Type 0
@@ -114,7 +113,7 @@ literal_rule marks id n want vars s =
 unfoldable pub slot_rule : List ℕ → ℕ → ExpressionRow → ℕ → ℕ → State → Ans
 slot_rule marks id n want vars s =
     letting (get slot_count s.slots n.a) λ x.
-    pick (leb 2 x) (unify_step marks id want (x - 2) vars s) (refuse 33 id s)
+    pick (leb 2 x) (unify_step marks id want (x - 2) vars s) (refuse SlotNotOpen id s)
 
 -- ---- "Let: 35, value, then its slot opens to the block's end."
 
@@ -123,8 +122,8 @@ unfoldable pub let_type : List ℕ → Counts → List ℕ → List ℕ → ℕ 
 let_type p c same marks id zero vars s = fresh_type Var vars s
 let_type p c same marks id (suc t) vars s =
     pick (is_marked marks t)
-    (record { typed = typed.Refused (record { number = 35; place = id; detail = 0 }); st = s })
-    (letting (code_in p c same t) λ x. record { typed = typed.Type x vars; st = s })
+    (record { typed = Err (refusal HoldsVariable id 0); st = s })
+    (letting (code_in p c same t) λ x. record { typed = Ok (expected x vars); st = s })
 
 -- "a let records unit"; "34: slot bound before in this root"
 unfoldable pub let_rule : Run → Env → ℕ → ExpressionRow → ℕ → State → Ans
@@ -136,7 +135,7 @@ let_rule run e id n vars s =
     letting (opened s.slots n.a x) λ l.
     pick free
     (letting (sealed s.notes id o.diverges 0) λ w. done o.diverges 0 o.vars (with_notes w (with_slots l s)))
-    (refuse 34 id (with_slots l s))
+    (refuse SlotBoundBefore id (with_slots l s))
 
 -- ---- "Block: statements in order; no last expression: unify with unit unless diverged."
 
@@ -191,7 +190,7 @@ bool_first marks id op want vars s = pick (leb op ne_op) (unify_step marks id wa
 
 -- what the left side is checked against: "bool for And, Or; the fresh type otherwise"
 unfoldable pub operand_type : ℕ → ℕ → State → Typing
-operand_type op vars s = pick (leb op or_op) (record { typed = typed.Type bool_code vars; st = s }) (fresh_type Var vars s)
+operand_type op vars s = pick (leb op or_op) (record { typed = Ok (expected bool_code vars); st = s }) (fresh_type Var vars s)
 
 -- "For these the result is unified with expected last."
 unfoldable pub result_last : List ℕ → ℕ → ℕ → ℕ → ℕ → ℕ → State → Ans
@@ -202,12 +201,11 @@ unfoldable pub right_rule : Run → Env → ℕ → ExpressionRow → ℕ → �
 right_rule run e id n want own d vars s =
     resolving own s λ x s.
     letting (is_list e.p e.c x) λ list.
-    letting (operator_plan n.op own x list) λ plan.
-    pick (eqb plan.number 0)
-    (run n.b plan.right vars s then λ r s.
+    letting (operator_plan n.op own x list)
+    (deciding (λ fault. refuse fault n.a s) λ plan.
+    run n.b plan.right vars s then λ r s.
     result_last e.marks id n.op want plan.result r.vars s then λ u s.
-    letting (d || r.diverges) λ d. done d plan.call u.vars s)
-    (refuse plan.number n.a s)
+    letting (d || r.diverges) λ d. done d (call_number plan.call) u.vars s)
 
 -- the fresh variable is "made as its rule starts (Lt to Ne: after bool)"
 unfoldable pub operator_rule : Run → Env → ℕ → ExpressionRow → ℕ → ℕ → State → Ans
@@ -250,11 +248,10 @@ unfoldable pub arm_rule : Run → Env → ℕ → ℕ → ℕ → ℕ → ℕ �
 arm_rule run e id list arms k want vars s =
     letting (list_item e.p e.c arms (4 * k)) λ name.
     letting (list_item e.p e.c arms (4 * k + 1)) λ payload.
-    letting (arm_fault e.p e.c e.marks list name payload) λ fault.
-    pick (eqb fault 0)
+    letting (arm_fault e.p e.c e.marks list name payload)
+    (refusing (λ fault. refuse fault id s)
     (letting (payload_opens e.p e.c e.same list name payload s.slots) λ o.
-    pick o.ok (body_rule run e arms k payload want vars (with_slots o.slots s)) (refuse 34 id (with_slots o.slots s)))
-    (refuse fault id s)
+    pick o.ok (body_rule run e arms k payload want vars (with_slots o.slots s)) (refuse SlotBoundBefore id (with_slots o.slots s))))
 
 -- "an unguarded `_`"
 unfoldable pub ends_arms : List ℕ → Counts → ℕ → ℕ → Bool
@@ -266,7 +263,7 @@ unfoldable pub arms_rule : Run → Env → ℕ → ℕ → ℕ → ℕ → ℕ �
 arms_rule run e id list arms zero k ended d want vars s = done d 0 vars s
 arms_rule run e id list arms (suc left) k ended d want vars s =
     pick ended
-    (letting (list_item e.p e.c arms (4 * k + 3)) λ body. refuse 25 body s)
+    (letting (list_item e.p e.c arms (4 * k + 3)) λ body. refuse ArmAfterAny body s)
     (arm_rule run e id list arms k want vars s then λ o s.
     letting (ends_arms e.p e.c arms k) λ ended.
     letting (d && o.diverges) λ d. arms_rule run e id list arms left (k + 1) ended d want o.vars s)
@@ -277,12 +274,12 @@ cases_rule run e id list arms want vars s =
     letting (list_len e.p e.c arms) λ left.
     arms_rule run e id list arms left 0 false true want vars s then λ o s.
     letting (missing_variants e.p e.c list arms) λ missing.
-    pick (eqb missing 0) (done o.diverges 0 o.vars s) (refuse_with 30 id missing s)
+    pick (eqb missing 0) (done o.diverges 0 o.vars s) (refuse_with NotExhaustive id missing s)
 
 -- "24: isn't an enum", at the examinee; "36: definition with parameters in match"
 abbrev pub subject_rule : Run → Env → ℕ → ExpressionRow → ℕ → ℕ → State → Subject → Ans
-subject_rule run e id n want vars s subject.Other = refuse 24 n.a s
-subject_rule run e id n want vars s subject.Generic = refuse 36 id s
+subject_rule run e id n want vars s subject.Other = refuse NotAnEnum n.a s
+subject_rule run e id n want vars s subject.Generic = refuse NotPlain id s
 subject_rule run e id n want vars s (subject.Enum list) = cases_rule run e id list n.b want vars s
 
 -- "One fresh variable each for: .. match, field, .. made as its rule starts"; "23, 24: examinee"
@@ -290,7 +287,7 @@ unfoldable pub match_rule : Run → Env → ℕ → ExpressionRow → ℕ → �
 match_rule run e id n want vars s =
     fresh_type Var vars s gives λ own vars s.
     run n.a own vars s then λ o s.
-    pick o.diverges (refuse 23 n.a s)
+    pick o.diverges (refuse ExamineeDiverges n.a s)
     (resolving own s λ x s.
     letting (subject_of e.p e.c x) (subject_rule run e id n want o.vars s))
 
@@ -309,15 +306,14 @@ fields_rule run e list fields (suc left) k d vars s =
 
 unfoldable pub record_rule : Run → Env → ℕ → ExpressionRow → ℕ → ℕ → State → Ans
 record_rule run e id n want vars s =
-    letting (record_fault e.p e.c e.marks n.a n.b) λ fault.
-    pick (eqb fault.number 0)
+    letting (record_fault e.p e.c e.marks n.a n.b)
+    (refusing (λ f. refuse_with f.fault id f.detail s)
     (letting (definition_row e.p e.c n.a) λ r.
     letting (list_len e.p e.c n.b) λ left.
     fields_rule run e r.list n.b left 0 false vars s then λ o s.
     letting (definition_code n.a) λ x.
     unify_step e.marks id want x o.vars s then λ u s.
-    done o.diverges 0 u.vars s)
-    (refuse_with fault.number id fault.detail s)
+    done o.diverges 0 u.vars s))
 
 -- ---- "Field: the inner node, 36, 32, 35, unify."
 
@@ -328,8 +324,8 @@ field_type_rule p c same marks id t want d vars s =
     unify_step marks id want x vars s then λ u s. done d 0 u.vars s
 
 abbrev pub accessed_rule : Env → ℕ → ℕ → Bool → ℕ → State → Accessed → Ans
-accessed_rule e id want d vars s (accessed.Fault number) = refuse number id s
-accessed_rule e id want d vars s (accessed.Type t) = field_type_rule e.p e.c e.same e.marks id t want d vars s
+accessed_rule e id want d vars s (Err fault) = refuse fault id s
+accessed_rule e id want d vars s (Ok t) = field_type_rule e.p e.c e.same e.marks id t want d vars s
 
 unfoldable pub field_rule : Run → Env → ℕ → ExpressionRow → ℕ → ℕ → State → Ans
 field_rule run e id n want vars s =
@@ -360,7 +356,7 @@ kind_rule run e id n want vars s kind =
     (pick (eqb kind record_kind) (record_rule run e id n want vars s)
     (pick (eqb kind field_kind) (field_rule run e id n want vars s)
     (pick (eqb kind return_kind) (return_rule run e id n vars s)
-    (refuse 15 id s))))))))
+    (refuse StrayLet id s))))))))
 
 -- the expected type is recorded first; then the rule of the node's kind; then the note is sealed
 unfoldable pub node_rule : Run → Env → ℕ → ℕ → ℕ → State → Ans
@@ -369,9 +365,9 @@ node_rule run e id want vars s =
     letting (recorded s.notes id want) λ l.
     (letting n.kind (kind_rule run e id n want vars (with_notes l s))) then λ o s.
     letting (sealed s.notes id o.diverges o.call) λ w.
-    record { step = Done o; st = with_notes w s }
+    record { step = Ok o; st = with_notes w s }
 
 -- "13: depth over 64": a well-formed pack has none
 unfoldable pub expr_rule : ℕ → Env → Run
-expr_rule zero e id want vars s = refuse 13 id s
+expr_rule zero e id want vars s = refuse TooDeep id s
 expr_rule (suc left) e id want vars s = node_rule (expr_rule left e) e id want vars s

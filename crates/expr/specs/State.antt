@@ -1,18 +1,14 @@
 -- What the rules of module 4 read, change and answer, and the ways in which a rule is put together from steps.
-use Rattle.std.specs.Prelude.{ℕ, ◌+◌, List, Bool, false}
+use Rattle.std.specs.Prelude.{ℕ, ◌+◌, List, Bool, false, Result, Ok, Err, Option, Some, None}
+use Rattle.laws.specs.Faults.{refusal}
+use Rattle.laws.specs.declared.fault.Fault.{Fault}
+use Rattle.laws.specs.declared.refusal.Refusal.{Refusal}
 use Rattle.pack.specs.declared.counts.Counts.{Counts}
-use Rattle.unionfind.specs.Answers.{fresh_answer, fresh_cells}
+use Rattle.unionfind.specs.Answers.{Answer, Made, fresh_answer, fresh_cells}
 use Rattle.unionfind.specs.declared.codes.Kind.{Kind}
-use Rattle.unionfind.specs.declared.answer.Made.{Made}
-use Rattle.unionfind.specs.declared.answer.Made.TheVariants as made
-use Rattle.unionfind.specs.declared.answer.Answer.{Answer}
-use Rattle.unionfind.specs.declared.answer.Answer.TheVariants as answer
 use Rattle.unify.specs.Unify.{resolve_of, settled, unify_answer, unify_cells}
 use Rattle.expr.specs.declared.answer.Outcome.{Outcome}
-use Rattle.expr.specs.declared.answer.Step.{Step}
-use Rattle.expr.specs.declared.answer.Step.TheVariants.{Done, Refused}
-use Rattle.expr.specs.declared.answer.Typed.{Typed}
-use Rattle.expr.specs.declared.answer.Typed.TheVariants as typed
+use Rattle.expr.specs.declared.answer.Expected.{Expected}
 
 -- what every rule may read: the pack, its counts, its types numbered by structure and marked where they hold a variable, and the code of
 -- the root's return type
@@ -44,6 +40,10 @@ with_slots l s = record { cells = s.cells; slots = l; notes = s.notes }
 abbrev pub with_notes : List ℕ → State → State
 with_notes l s = record { cells = s.cells; slots = s.slots; notes = l }
 
+-- a step of a rule: accepted, or refused
+abbrev pub Step : Type 0
+Step = Result Outcome Refusal
+
 -- what a rule answers: its step, and the state that it leaves
 pub record Ans : Type 0 where
   pub step : Step
@@ -57,27 +57,44 @@ abbrev pub outcome : Bool → ℕ → ℕ → Outcome
 outcome diverges call vars = record { diverges = diverges; call = call; vars = vars }
 
 abbrev pub done : Bool → ℕ → ℕ → State → Ans
-done diverges call vars s = record { step = Done (outcome diverges call vars); st = s }
+done diverges call vars s = record { step = Ok (outcome diverges call vars); st = s }
 
 -- "a refusal carrying number, place and detail (0 unless said)"
-abbrev pub refuse_with : ℕ → ℕ → ℕ → State → Ans
-refuse_with number place detail s = record { step = Refused (record { number = number; place = place; detail = detail }); st = s }
+abbrev pub refuse_with : Fault → ℕ → ℕ → State → Ans
+refuse_with fault place detail s = record { step = Err (refusal fault place detail); st = s }
 
-abbrev pub refuse : ℕ → ℕ → State → Ans
-refuse number place s = refuse_with number place 0 s
+abbrev pub refuse : Fault → ℕ → State → Ans
+refuse fault place s = refuse_with fault place 0 s
+
+-- what is said of a fault that was found; where none was, what follows
+unfoldable pub refusing : {F : Type 0} → (F → Ans) → Ans → Option F → Ans
+refusing refused next None = next
+refusing refused next (Some fault) = refused fault
+
+-- what follows of what was decided, or what is said of the fault in its place
+unfoldable pub deciding : {A : Type 0} → (Fault → Ans) → (A → Ans) → Result A Fault → Ans
+deciding refused next (Ok x) = next x
+deciding refused next (Err fault) = refused fault
 
 -- ---- steps one after the other
 
 abbrev pub cont : Step → State → (Outcome → State → Ans) → Ans
-cont (Done o) s k = k o s
-cont (Refused f) s k = record { step = Refused f; st = s }
+cont (Ok o) s k = k o s
+cont (Err f) s k = record { step = Err f; st = s }
 
 infixr 5 ◌then◌
 -- a step that has to be accepted before the rule goes on
 unfoldable pub ◌then◌ : Ans → (Outcome → State → Ans) → Ans
 a then k = cont a.step a.st k
 
--- a type to check against, how many variables are in use with it, and the state that asking for it leaves
+-- a type to check against and how many variables are in use with it, or a refusal
+abbrev pub Typed : Type 0
+Typed = Result Expected Refusal
+
+abbrev pub expected : ℕ → ℕ → Expected
+expected x vars = record { code = x; vars = vars }
+
+-- the same, and the state that asking for it leaves
 pub record Typing : Type 0 where
   pub typed : Typed
   pub st : State
@@ -86,8 +103,8 @@ abbrev pub typed_as : Typed → List ℕ → List ℕ → List ℕ → Typing
 typed_as r cells slots notes = record { typed = r; st = st cells slots notes }
 
 abbrev pub cont_with : Typed → State → (ℕ → ℕ → State → Ans) → Ans
-cont_with (typed.Type x vars) s k = k x vars s
-cont_with (typed.Refused f) s k = record { step = Refused f; st = s }
+cont_with (Ok t) s k = k t.code t.vars s
+cont_with (Err f) s k = record { step = Err f; st = s }
 
 infixr 5 ◌gives◌
 unfoldable pub ◌gives◌ : Typing → (ℕ → ℕ → State → Ans) → Ans
@@ -101,8 +118,8 @@ resolving x s k = k (resolve_of s.cells x) (with_cells (settled s.cells x) s)
 
 -- "One fresh variable": 37 at the asking
 abbrev pub typed_made : ℕ → Made → Typed
-typed_made vars (made.Code x) = typed.Type x (vars + 1)
-typed_made vars (made.Refused f) = typed.Refused f
+typed_made vars (Ok x) = Ok (expected x (vars + 1))
+typed_made vars (Err f) = Err f
 
 unfoldable pub fresh_type : Kind → ℕ → State → Typing
 fresh_type kind vars s =
@@ -113,8 +130,8 @@ fresh_type kind vars s =
 
 -- unify at a node, expected left
 abbrev pub step_for : ℕ → Answer → Step
-step_for vars answer.Done = Done (outcome false 0 vars)
-step_for vars (answer.Refused f) = Refused f
+step_for vars (Ok x) = Ok (outcome false 0 vars)
+step_for vars (Err f) = Err f
 
 unfoldable pub unify_step : List ℕ → ℕ → ℕ → ℕ → ℕ → State → Ans
 unify_step marks at left right vars s =

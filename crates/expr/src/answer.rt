@@ -1,4 +1,4 @@
-// The answers of module 4: a step of a rule, a type to check against, and the whole root.
+// The answers of module 4: a step of a rule, and a type to check against.
 ghost use Rattle.std.specs.Prelude.{◌≡◌};
 ghost use Rattle.expr.specs.State.{outcome};
 
@@ -12,42 +12,19 @@ pub struct Outcome {
     pub vars: u32,
 }
 
-#[derive(Clone, Copy)]
-pub enum Step {
-    Done(Outcome),
-    Refused(Refusal),
-}
-
 // A type's code to check against, and how many variables are in use with it.
 #[derive(Clone, Copy)]
-pub enum Typed {
-    Type { code: u32, vars: u32 },
-    Refused(Refusal),
+pub struct Expected {
+    pub code: u32,
+    pub vars: u32,
 }
 
-// A root: its words are written to the area, or it is refused.
-#[derive(Clone, Copy)]
-pub enum Checked {
-    Report,
-    Refused(Refusal),
-}
-
-pub fn done(diverges: bool, call: u32, vars: u32) -> Step
-    ensures { result ≡ Step.Done (outcome diverges call vars) }
+pub fn done(diverges: bool, call: u32, vars: u32) -> Result<Outcome, Refusal>
+    ensures { result ≡ Ok (outcome diverges call vars) }
 {
-    Step::Done(Outcome {
-        diverges: diverges,
-        call: call,
-        vars: vars,
-    })
-}
-
-pub fn refuse(number: u32, place: u32, detail: u64) -> Step
-    ensures { result ≡ Step.Refused (record { number = number; place = place; detail = detail }) }
-{
-    Step::Refused(Refusal {
-        number: number,
-        place: place,
-        detail: detail,
+    Ok(Outcome {
+        diverges,
+        call,
+        vars,
     })
 }

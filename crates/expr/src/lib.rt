@@ -6,7 +6,7 @@ mod notes;
 mod payload;
 mod root;
 mod rules;
+mod state;
 mod types;
 
-pub use answer::Checked;
 pub use root::check_root;

@@ -6,6 +6,7 @@ use crate::types::Code;
 use words::{Notes, code_noted, note_at, note_of, put_note};
 
 // The type that a node records.
+#[tactic(auto, unfolding(crate::specs::Rules::recorded))]
 pub fn record_type(notes: &mut [u32; Notes::CAPACITY], id: u32, code: u32)
     ensures { notes.new ≡ recorded notes.old id code }
 {
@@ -13,6 +14,7 @@ pub fn record_type(notes: &mut [u32; Notes::CAPACITY], id: u32, code: u32)
 }
 
 // The node is accepted.
+#[tactic(auto, unfolding(crate::specs::Rules::sealed))]
 pub fn seal(notes: &mut [u32; Notes::CAPACITY], id: u32, diverges: bool, call: u32)
     ensures { notes.new ≡ sealed notes.old id diverges call }
 {
@@ -21,6 +23,7 @@ pub fn seal(notes: &mut [u32; Notes::CAPACITY], id: u32, diverges: bool, call: u
 }
 
 // What a block records: its last expression's type, or unit.
+#[tactic(auto, unfolding(crate::specs::Rules::last_code))]
 pub fn last_code(notes: &[u32; Notes::CAPACITY], last: u32) -> u32
     ensures { result ≡ last_code notes.now last }
 {

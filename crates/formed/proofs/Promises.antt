@@ -13,17 +13,19 @@ use Rattle.laws.specs.Lists.{In}
 use Rattle.laws.proofs.Answers.{passed, follows}
 use Rattle.laws.proofs.First.{each, none_is}
 use Rattle.laws.proofs.Lists.{in_gather, count_same}
-use Rattle.pack.specs.Answer.{refuse, passes}
+use Rattle.std.proofs.Common.{Ok}
+use Rattle.laws.specs.Faults.{passes}
+use Rattle.pack.specs.Answer.{Reading, refuse}
 use Rattle.pack.specs.Header.{counts_of, header_of}
 use Rattle.pack.specs.Rows.{expression_row, root_row}
 use Rattle.pack.specs.Named.{kids_of}
 use Rattle.pack.specs.declared.counts.Counts.{Counts}
-use Rattle.pack.specs.declared.answer.Reading.{Reading}
-use Rattle.pack.specs.declared.answer.Reading.TheVariants.{Pack}
 use Rattle.pack.proofs.HeaderLaws.{Headed, header_passed, pack_same}
 use Rattle.rows.specs.Tables.{rows_of}
 use Rattle.rows.proofs.Promises.{root_inside}
-use Rattle.trees.specs.Nodes.{bodies_of, stated_of, depth_of, max_depth, node_fits, nodes_of}
+use Rattle.trees.specs.declared.node_test.NodeTest.{NodeTest}
+use Rattle.trees.specs.declared.node_test.NodeTest.TheVariants.{UsedOnce, LetStated, Shallow}
+use Rattle.trees.specs.Nodes.{bodies_of, stated_of, depth_of, max_depth, node_fits, test_fault, nodes_of}
 use Rattle.formed.specs.Formed.{trees_of, body_of, formed_of}
 use Rattle.trees.specs.Trees.{Trees}
 use Rattle.formed.proofs.Ready.{grown}
@@ -46,39 +48,39 @@ pub record WellFormed (p : List ℕ) (c : Counts) : Type 0 where
   pub body_depth : (r : ℕ) → r < c.roots → depth_of p c (root_row p c r).body ≡ 1
 
 -- each expression passes a test over all
-node_passed : (p : List ℕ) (c : Counts) (number : ℕ) → passes (nodes_of p c number) ≡ true → (e : ℕ) → e < c.expressions → node_fits p c number e ≡ true
+node_passed : (p : List ℕ) (c : Counts) (test : NodeTest) → passes (nodes_of p c test) ≡ true → (e : ℕ) → e < c.expressions → node_fits p c test e ≡ true
 unfolding nodes_of
-node_passed p c number t e l = each (node_fits p c number) (λ e. refuse number e 0) (Pack c) passes (λ k f. refl) c.expressions 0 t e (omega arith) l
+node_passed p c test t e l = each (node_fits p c test) (λ e. refuse (test_fault test) e 0) (Ok c) passes (λ k f. refl) c.expressions 0 t e (omega arith) l
 
 -- and the answer of such a test is the counts
-node_is : (p : List ℕ) (c : Counts) (number : ℕ) → passes (nodes_of p c number) ≡ true → nodes_of p c number ≡ Pack c
+node_is : (p : List ℕ) (c : Counts) (test : NodeTest) → passes (nodes_of p c test) ≡ true → nodes_of p c test ≡ Ok c
 unfolding nodes_of
-node_is p c number t = none_is (node_fits p c number) (λ e. refuse number e 0) (Pack c) 0 c.expressions (λ k a l. node_passed p c number t k l)
+node_is p c test t = none_is (node_fits p c test) (λ e. refuse (test_fault test) e 0) (Ok c) 0 c.expressions (λ k a l. node_passed p c test t k l)
 
 -- the parts of an answer that passed
-parts : (p : List ℕ) (c : Counts) → passes (body_of p c) ≡ true → (passes (rows_of p c) ≡ true) × (passes (nodes_of p c 12) ≡ true) × (passes (nodes_of p c 15) ≡ true) × (passes (nodes_of p c 13) ≡ true)
+parts : (p : List ℕ) (c : Counts) → passes (body_of p c) ≡ true → (passes (rows_of p c) ≡ true) × (passes (nodes_of p c UsedOnce) ≡ true) × (passes (nodes_of p c LetStated) ≡ true) × (passes (nodes_of p c Shallow) ≡ true)
 unfolding body_of trees_of
 parts p c t =
     let r = passed passes (rows_of p c) (trees_of p c) t in
-    let u = passed passes (nodes_of p c 12) (after passes (nodes_of p c 15) (nodes_of p c 13)) (ap passes (sym r.1) ∙ t) in
-    let l = passed passes (nodes_of p c 15) (nodes_of p c 13) (ap passes (sym u.1) ∙ ap passes (sym r.1) ∙ t) in
+    let u = passed passes (nodes_of p c UsedOnce) (after passes (nodes_of p c LetStated) (nodes_of p c Shallow)) (ap passes (sym r.1) ∙ t) in
+    let l = passed passes (nodes_of p c LetStated) (nodes_of p c Shallow) (ap passes (sym u.1) ∙ ap passes (sym r.1) ∙ t) in
     (r.0, u.0, l.0, ap passes (sym l.1) ∙ ap passes (sym u.1) ∙ ap passes (sym r.1) ∙ t)
 
-body_is : (p : List ℕ) (c : Counts) → passes (body_of p c) ≡ true → body_of p c ≡ Pack c
+body_is : (p : List ℕ) (c : Counts) → passes (body_of p c) ≡ true → body_of p c ≡ Ok c
 unfolding body_of trees_of
 body_is p c t =
     let q = parts p c t in
     sym (follows passes (rows_of p c) (trees_of p c) q.0 refl)
-    ∙ sym (follows passes (nodes_of p c 12) (after passes (nodes_of p c 15) (nodes_of p c 13)) q.1 refl)
-    ∙ sym (follows passes (nodes_of p c 15) (nodes_of p c 13) q.2 refl)
-    ∙ node_is p c 13 q.3
+    ∙ sym (follows passes (nodes_of p c UsedOnce) (after passes (nodes_of p c LetStated) (nodes_of p c Shallow)) q.1 refl)
+    ∙ sym (follows passes (nodes_of p c LetStated) (nodes_of p c Shallow) q.2 refl)
+    ∙ node_is p c Shallow q.3
 
-let_stated_lem : (p : List ℕ) (c : Counts) (e : ℕ) → node_fits p c 15 e ≡ true → (expression_row p c e).kind ≡ 3 → 1 ≤ stated_of p c e
+let_stated_lem : (p : List ℕ) (c : Counts) (e : ℕ) → node_fits p c LetStated e ≡ true → (expression_row p c e).kind ≡ 3 → 1 ≤ stated_of p c e
 unfolding node_fits pick
 let_stated_lem p c e t k = leb-true 1 (stated_of p c e) (rw (eq-eqb (expression_row p c e).kind 3 k) at t)
 
-not_deep : (p : List ℕ) (c : Counts) (e : ℕ) → node_fits p c 13 e ≡ true → depth_of p c e ≤ max_depth
-unfolding node_fits pick
+not_deep : (p : List ℕ) (c : Counts) (e : ℕ) → node_fits p c Shallow e ≡ true → depth_of p c e ≤ max_depth
+unfolding node_fits
 not_deep p c e t = leb-true (depth_of p c e) max_depth t
 
 body_named : (p : List ℕ) (c : Counts) (r : ℕ) → r < c.roots → In (root_row p c r).body (bodies_of p c)
@@ -88,15 +90,15 @@ body_named p c r l =
     (omega (arith, count_same (root_row p c r).body (root_row p c r).body [] refl))
 
 -- a pack that was not refused is well-formed, with the counts that the answer has
-pub well_formed : (p : List ℕ) (c : Counts) → formed_of p ≡ Pack c → WellFormed p c
+pub well_formed : (p : List ℕ) (c : Counts) → formed_of p ≡ Ok c → WellFormed p c
 unfolding formed_of
 well_formed p c e =
     record {
       headed = h;
       rows_passed = q.0;
       trees = t;
-      lets = λ i l k. let_stated_lem p c i (node_passed p c 15 q.2 i l) k;
-      deep = λ i l. not_deep p c i (node_passed p c 13 q.3 i l);
+      lets = λ i l k. let_stated_lem p c i (node_passed p c LetStated q.2 i l) k;
+      deep = λ i l. not_deep p c i (node_passed p c Shallow q.3 i l);
       kid_depth = λ i k l m. depth_kid p c t k i (omega (arith, t.smaller i k l m)) l m;
       body_depth =
           λ r l.
@@ -118,14 +120,14 @@ well_formed p c e =
     h : Headed p c
     h = rw same at (header_passed p a.0).1
 
-    q : (passes (rows_of p c) ≡ true) × (passes (nodes_of p c 12) ≡ true) × (passes (nodes_of p c 15) ≡ true) × (passes (nodes_of p c 13) ≡ true)
+    q : (passes (rows_of p c) ≡ true) × (passes (nodes_of p c UsedOnce) ≡ true) × (passes (nodes_of p c LetStated) ≡ true) × (passes (nodes_of p c Shallow) ≡ true)
     q = parts p c (rw same at b)
 
     t : Trees p c
     t = grown p c q.0 q.1
 
 -- past the header the answer is that of the rows and trees (5 and 6 are asked between the two)
-pub after_header : (p : List ℕ) (c : Counts) → header_of p ≡ Pack c → formed_of p ≡ body_of p c
+pub after_header : (p : List ℕ) (c : Counts) → header_of p ≡ Ok c → formed_of p ≡ body_of p c
 unfolding formed_of
 after_header p c e =
     let h = header_passed p (ap passes e) in

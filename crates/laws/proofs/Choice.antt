@@ -5,7 +5,7 @@
 --     past_kinds   a kind past all rules
 --     by_eq        two numbers are equal or not
 --     by_test      a test holds or fails
---     tested       a fault's number that was not given: the test held, and what follows gave none either
+--     tested       a fault that was not given: the test held, and what follows gave none either
 --     fails        no test both holds and fails
 --     and_both     a conjunction that holds
 -- Assumes nothing.
@@ -17,6 +17,9 @@ use native.Mathlib.Omega.{arith}
 use lib.Dec.{eqb}
 use lib.ListN.{length, get_or-eq_default}
 use borrow.Author.Tests.{eqb-true, eqb-false}
+use Rattle.std.proofs.Common.{Option, Some, None}
+use Rattle.laws.specs.Faults.{clean}
+use Rattle.laws.specs.declared.fault.Fault.{Fault}
 use Rattle.laws.specs.Choice.{pick, letting, by_kind}
 
 pub yes : {A : Type 0} {z : A} (b : Bool) (x y : A) → b ≡ true → z ≡ x → z ≡ pick b x y
@@ -56,17 +59,21 @@ by_test false y n = n refl
 pub by_eq : (a b : ℕ) {P : Type 0} → (a ≡ b → P) → ((a ≡ b → ⊥) → P) → P
 by_eq a b y n = by_test (eqb a b) (λ t. y (eqb-true a b t)) (λ f. n (eqb-false a b f))
 
-pub tested : (b : Bool) (rest number : ℕ) → pick b rest (suc number) ≡ 0 → (b ≡ true) × (rest ≡ 0)
-unfolding pick
-tested true rest number e = (refl, e)
-tested false rest number e = absurd (omega arith)
-
 pub fails : true ≡ false → ⊥
 fails q = let w : ◌≡◌ {A = ℕ} (told true) (told false) = ap told q in omega arith
   where
     told : Bool → ℕ
     told true = 1
     told false = 0
+
+pub tested : (b : Bool) (rest : Option Fault) (fault : Fault) → pick b rest (Some fault) ≡ None → (b ≡ true) × (rest ≡ None)
+unfolding pick
+tested true rest fault e = (refl, e)
+tested false rest fault e = absurd (fails (sym (ap clean e)))
+
+-- a fault is not none
+pub some_none : {fault : Fault} → Some fault ≡ None → ⊥
+some_none e = fails (sym (ap clean e))
 
 pub and_both : (a b : Bool) → (a && b) ≡ true → (a ≡ true) × (b ≡ true)
 and_both true b e = (refl, e)

@@ -1,3 +1,4 @@
+pub mod Faults
 pub mod Choice
 pub mod First
 pub mod Lists

@@ -1,38 +1,31 @@
-// What the code of all layers shares: tests that are all asked first and then joined, and the refusal that they lead to.
+// What the code of all layers shares: the faults, the refusal that names one, and a test as a number.
 #![tactic(auto)]
 
-ghost use Rattle.std.specs.Prelude.{◌≡◌, ◌&&◌, ◌||◌};
-ghost use Rattle.laws.specs.Choice.{pick};
+ghost use Rattle.std.specs.Prelude.{◌≡◌};
 ghost use Rattle.laws.specs.Lists.{bit};
+ghost use Rattle.laws.specs.Faults.{need};
 
+mod fault;
 mod refusal;
 
+pub use fault::Fault;
 pub use refusal::Refusal;
 
-// Whether both tests hold.
-pub fn both(a: bool, b: bool) -> bool
-    ensures { result ≡ (a && b) }
+// Where the test fails, that refusal at place 0.
+#[tactic(auto, unfolding(crate::specs::Choice::pick))]
+pub fn need(ok: bool, fault: Fault) -> Result<(), Refusal>
+    ensures { result ≡ need ok fault }
 {
-    if a { b } else { false }
-}
-
-// Whether one of the tests holds.
-pub fn either(a: bool, b: bool) -> bool
-    ensures { result ≡ (a || b) }
-{
-    if a { true } else { b }
-}
-
-// What the tests after this one said where it holds, and else its own number.
-pub fn unless(ok: bool, number: u32, rest: u32) -> u32
-    ensures { result ≡ pick ok rest number }
-{
-    if ok { rest } else { number }
+    if ok {
+        Ok(())
+    } else {
+        Err(Refusal::at(fault, 0))
+    }
 }
 
 // A test as a number, 1 where it holds and else 0.
 pub fn flag(b: bool) -> u32
     ensures { result ≡ bit b }
 {
-    if b { 1 } else { 0 }
+    u32::from(b)
 }

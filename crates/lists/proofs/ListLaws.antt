@@ -9,15 +9,17 @@ use mathlib.Core.List.{List}
 use native.Mathlib.Omega.{arith}
 use lib.Dec.{leb, ltb}
 use borrow.Author.Tests.{leb-true, ltb-true, lt-ltb, le-ltb}
-use Rattle.laws.specs.Choice.{pick, by_kind}
+use Rattle.laws.specs.Choice.{pick}
 use Rattle.laws.specs.First.{all}
 use Rattle.laws.proofs.Choice.{and_both}
 use Rattle.laws.proofs.Tests.{same_test, all_same, all_both}
 use Rattle.pack.specs.Lists.{list_word, list_len, list_item}
 use Rattle.pack.specs.declared.counts.Counts.{Counts}
 use Rattle.lists.specs.Limits.{names, wild, optional_below}
+use Rattle.lists.specs.Forms.{stride}
+use Rattle.lists.specs.declared.forms.Form.TheVariants.{Id, Word, Variant, Arm}
 use Rattle.lists.specs.Lists.{list_fits, words_of, ids_fit, slots_fit, item_fits, items_fit}
-use Rattle.lists.specs.Peaks.{never, weight, stride}
+use Rattle.lists.specs.Peaks.{never, weight}
 use Rattle.lists.specs.declared.lists.Items.{Items}
 use Rattle.lists.specs.declared.lists.Items.TheVariants.{Ids, Pairs, Variants, Arms}
 
@@ -33,6 +35,14 @@ module _ (p : List ℕ) (c : Counts) (items : Items) (s : ℕ) {n words : ℕ} {
   pub outside : b ≡ false → false ≡ items_fit p c items s
   unfolding items_fit
   outside f = rw (← count, ← wide, ← asked, f)
+
+-- ---- two tests one after the other
+
+pub and_second : {a b : Bool} → a ≡ true → b ≡ (a && b)
+and_second t = rw t refl
+
+pub and_first : {a : Bool} (b : Bool) → a ≡ false → a ≡ (a && b)
+and_first b f = rw f refl
 
 -- ---- by weights
 
@@ -52,34 +62,34 @@ arm_light true (suc g) b limit l =
 arm_light false g b limit l = le-ltb never limit l
 
 module _ (p : List ℕ) (c : Counts) (s n : ℕ) where
-  pub ids_by : (limit : ℕ) → all (λ k. ltb (weight p c 0 (s + 1 + stride 0 * k)) limit) 0 n ≡ all (item_fits p c (Ids limit) s) 0 n
-  unfolding weight by_kind list_item
+  pub ids_by : (limit : ℕ) → all (λ k. ltb (weight p c Id (s + 1 + stride Id * k)) limit) 0 n ≡ all (item_fits p c (Ids limit) s) 0 n
+  unfolding weight list_item
   ids_by limit =
-      all_same (λ k. ltb (weight p c 0 (s + 1 + stride 0 * k)) limit) (item_fits p c (Ids limit) s) n
+      all_same (λ k. ltb (weight p c Id (s + 1 + stride Id * k)) limit) (item_fits p c (Ids limit) s) n
       (λ k h. let e : s + 1 + 1 * k ≡ s + 1 + k = omega arith in ap (λ (x : ℕ). ltb (list_word p c x) limit) e)
 
-  pub pairs_by : (first second : ℕ) {a b : Bool} → a ≡ all (λ k. ltb (weight p c 1 (s + 1 + stride 1 * k)) first) 0 n
-      → b ≡ all (λ k. ltb (weight p c 1 (s + 2 + stride 1 * k)) second) 0 n → (a && b) ≡ all (item_fits p c (Pairs first second) s) 0 n
-  unfolding weight by_kind list_item
+  pub pairs_by : (first second : ℕ) {a b : Bool} → a ≡ all (λ k. ltb (weight p c Word (s + 1 + stride Word * k)) first) 0 n
+      → b ≡ all (λ k. ltb (weight p c Word (s + 2 + stride Word * k)) second) 0 n → (a && b) ≡ all (item_fits p c (Pairs first second) s) 0 n
+  unfolding weight list_item
   pairs_by first second e f =
       rw (e, f)
       (all_both (λ k. ltb (list_word p c (s + 1 + 2 * k)) first) (λ k. ltb (list_word p c (s + 2 + 2 * k)) second) n
       ∙ all_same (λ k. ltb (list_word p c (s + 1 + 2 * k)) first && ltb (list_word p c (s + 2 + 2 * k)) second) (item_fits p c (Pairs first second) s) n
       (λ k h. let q : s + 2 + 2 * k ≡ s + 1 + (2 * k + 1) = omega arith in ap (λ (x : ℕ). ltb (list_word p c (s + 1 + 2 * k)) first && ltb (list_word p c x) second) q))
 
-  pub variants_by : all (λ k. ltb (weight p c 2 (s + 1 + stride 2 * k)) 1) 0 n ≡ all (item_fits p c Variants s) 0 n
-  unfolding weight by_kind list_item
+  pub variants_by : all (λ k. ltb (weight p c Variant (s + 1 + stride Variant * k)) 1) 0 n ≡ all (item_fits p c Variants s) 0 n
+  unfolding weight list_item
   variants_by =
-      all_same (λ k. ltb (weight p c 2 (s + 1 + stride 2 * k)) 1) (item_fits p c Variants s) n
+      all_same (λ k. ltb (weight p c Variant (s + 1 + stride Variant * k)) 1) (item_fits p c Variants s) n
       (λ k h.
       let q : s + 1 + 2 * k + 1 ≡ s + 1 + (2 * k + 1) = omega arith in
       light (ltb (list_word p c (s + 1 + 2 * k)) names && ids_fit p c c.types (list_word p c (s + 1 + 2 * k + 1)))
       ∙ ap (λ (x : ℕ). ltb (list_word p c (s + 1 + 2 * k)) names && ids_fit p c c.types (list_word p c x)) q)
 
-  pub arms_by : (limit : ℕ) → limit ≤ never → all (λ k. ltb (weight p c 3 (s + 1 + stride 3 * k)) limit) 0 n ≡ all (item_fits p c (Arms limit) s) 0 n
-  unfolding weight by_kind list_item
+  pub arms_by : (limit : ℕ) → limit ≤ never → all (λ k. ltb (weight p c Arm (s + 1 + stride Arm * k)) limit) 0 n ≡ all (item_fits p c (Arms limit) s) 0 n
+  unfolding weight list_item
   arms_by limit l =
-      all_same (λ k. ltb (weight p c 3 (s + 1 + stride 3 * k)) limit) (item_fits p c (Arms limit) s) n
+      all_same (λ k. ltb (weight p c Arm (s + 1 + stride Arm * k)) limit) (item_fits p c (Arms limit) s) n
       (λ k h.
       let j = s + 1 + 4 * k in
       let a : j + 1 ≡ s + 1 + (4 * k + 1) = omega arith in

@@ -5,23 +5,24 @@
 use Prim.Native.Nat.{ℕ, zero, suc, ◌+◌, ◌*◌, ◌/◌, ◌-◌, ◌<◌, ◌≤◌}
 use mathlib.Core.Path.{◌≡◌, refl, sym, ap, ◌∙◌}
 use mathlib.Core.List.{List}
-use mathlib.Core.Bool.{Bool, true, false, not}
+use mathlib.Core.Bool.{Bool, true, not}
 use native.Mathlib.Omega.{arith}
 use native.Mathlib.Numerals.{add-one}
 use lib.ListN.{length, get_or, set, replicate, length-set, length-replicate}
 use lib.Seq.{get_or-set_same, get_or-set_other}
 use lib.Dec.{eqb, ltb}
 use borrow.Author.Tests.{eqb-true, eq-eqb, ne_eqb, ltb-true, ltb-false}
-use Rattle.laws.specs.Choice.{pick, by_kind}
+use Rattle.laws.specs.Choice.{pick}
 use Rattle.laws.specs.First.{all}
 use Rattle.laws.proofs.Choice.{yes, no, by_eq, by_test, fails}
 use Rattle.laws.proofs.First.{all_in, all_of}
 use Rattle.laws.proofs.Tests.{same_test, all_same}
 use Rattle.pack.specs.Lists.{list_word, list_len, list_item}
 use Rattle.pack.specs.declared.counts.Counts.{Counts}
-use Rattle.lists.specs.Lists.{list_fits}
+use Rattle.lists.specs.Forms.{stride}
+use Rattle.lists.specs.declared.forms.Form.TheVariants.{Name, Reference}
 use Rattle.lists.specs.Names.{name_at, fresh, names_differ, items_rise, Named}
-use Rattle.lists.specs.Peaks.{key, last_of, earlier, region, Earlier, weight, stride}
+use Rattle.lists.specs.Peaks.{key, last_of, earlier, weight}
 use Rattle.lists.proofs.ListLaws.{light}
 
 pub record Met (p : List ℕ) (c : Counts) (j : ℕ) (marks places : List ℕ) : Type 0 where
@@ -78,9 +79,6 @@ met_more {p} {c} {j} {k} {marks} {places} m e small l =
   where
     next : (x : ℕ) → pick (eqb (key p c j) x) j (last_of (λ i. eqb (key p c i) x) j) ≡ last_of (λ i. eqb (key p c i) x) (j + 1)
     next x = rw (add-one j) refl
-
-pub met_all : {p : List ℕ} {c : Counts} {j : ℕ} {marks places : List ℕ} → Met p c j marks places → region c ≤ j → Earlier p c places × (length marks ≡ 98304)
-met_all m l = (record { each = λ i h. m.done i (omega arith) }, m.long_marks)
 
 -- ---- a list of pairs
 
@@ -147,28 +145,22 @@ fresh_by p c s k m h =
         absurd (fails (sym (all_in (λ j. not (eqb (name_at p c s j) (name_at p c s k))) 0 k t i (omega arith) less) ∙ ap not (eq-eqb (name_at p c s i) (name_at p c s k) same))))
 
 pub names_by : (p : List ℕ) (c : Counts) (s : ℕ) → Named p c s → {n : ℕ} → n ≡ list_len p c s
-    → all (λ k. ltb (weight p c 4 (s + 1 + stride 4 * k)) (s + 1)) 0 n ≡ names_differ p c s
-unfolding weight by_kind names_differ
+    → all (λ k. ltb (weight p c Name (s + 1 + stride Name * k)) (s + 1)) 0 n ≡ names_differ p c s
+unfolding weight names_differ
 names_by p c s m {n} e =
     rw e
-    (all_same (λ k. ltb (weight p c 4 (s + 1 + stride 4 * k)) (s + 1)) (λ k. fresh (name_at p c s) k (name_at p c s k)) (list_len p c s) (λ k h. fresh_by p c s k m h))
-
-pub not_named : {p : List ℕ} {c : Counts} {s n : ℕ} → Named p c s → n ≡ list_len p c s → list_fits c s (2 * n) ≡ false → ⊥
-not_named {p} {c} {s} m e f = fails (sym m.inside ∙ ap (λ (x : ℕ). list_fits c s (2 * x)) (sym e) ∙ f)
+    (all_same (λ k. ltb (weight p c Name (s + 1 + stride Name * k)) (s + 1)) (λ k. fresh (name_at p c s) k (name_at p c s k)) (list_len p c s) (λ k h. fresh_by p c s k m h))
 
 -- ---- references
 
-pub rises_by : (p : List ℕ) (c : Counts) (s : ℕ) {n m : ℕ} → n ≡ list_len p c s → m ≡ n - 1 → all (λ k. ltb (weight p c 5 (s + 1 + stride 5 * k)) 1) 0 m ≡ items_rise p c s
-unfolding weight by_kind items_rise list_item
+pub rises_by : (p : List ℕ) (c : Counts) (s : ℕ) {n m : ℕ} → n ≡ list_len p c s → m ≡ n - 1 → all (λ k. ltb (weight p c Reference (s + 1 + stride Reference * k)) 1) 0 m ≡ items_rise p c s
+unfolding weight items_rise list_item
 rises_by p c s {n} {m} e w =
     rw (w, e)
-    (all_same (λ k. ltb (weight p c 5 (s + 1 + stride 5 * k)) 1) (λ k. ltb (list_item p c s k) (list_item p c s (k + 1))) (list_len p c s - 1)
+    (all_same (λ k. ltb (weight p c Reference (s + 1 + stride Reference * k)) 1) (λ k. ltb (list_item p c s k) (list_item p c s (k + 1))) (list_len p c s - 1)
     (λ k h.
     let a : s + 1 + 1 * k ≡ s + 1 + k = omega arith in
     let b : s + 1 + k + 1 ≡ s + 1 + (k + 1) = omega arith in
     light (ltb (list_word p c (s + 1 + 1 * k)) (list_word p c (s + 1 + 1 * k + 1)))
     ∙ ap (λ (x : ℕ). ltb (list_word p c x) (list_word p c (x + 1))) a
     ∙ ap (λ (x : ℕ). ltb (list_word p c (s + 1 + k)) (list_word p c x)) b))
-
-pub too_long : (p : List ℕ) (c : Counts) (s : ℕ) {n : ℕ} → n ≡ list_len p c s → list_fits c s (list_len p c s) ≡ true → list_fits c s n ≡ false → ⊥
-too_long p c s e t f = fails (sym t ∙ ap (list_fits c s) (sym e) ∙ f)

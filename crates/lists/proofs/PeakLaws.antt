@@ -1,5 +1,5 @@
 -- The tree over all items.
---     tip_more, node_more    its leaves and its nodes, filled one by one
+--     node_more              its nodes, filled one by one
 --     halves, edge_fails     a range of places, judged by its ends and by the nodes above the rest
 --     leaf_at                the items of a list lie side by side
 --     range_items            what a range of leaves says of the items
@@ -19,28 +19,12 @@ use Rattle.laws.proofs.Choice.{by_eq, by_test, fails, and_both}
 use Rattle.laws.proofs.First.{all_in, all_of}
 use Rattle.laws.proofs.Tests.{same_test, or_true, or_right, same_all}
 use Rattle.pack.specs.declared.counts.Counts.{Counts}
-use Rattle.lists.specs.Peaks.{weight, stride, region, leaves, lane, spot, place, leaf, Tips, Nodes, Peaks, edges_below}
+use Rattle.lists.specs.Forms.{number, form_at, stride}
+use Rattle.lists.specs.declared.forms.Form.{Form}
+use Rattle.lists.specs.declared.forms.Form.TheVariants.{Id, Word, Variant, Arm, Name, Reference}
+use Rattle.lists.specs.Peaks.{weight, region, leaves, lane, spot, place, leaf, Nodes, Peaks, edges_below}
 
 -- ---- filling
-
-pub tip_none : (p : List ℕ) (c : Counts) (cells : List ℕ) → length cells ≡ 98304 → Tips p c 0 cells
-tip_none p c cells e = record { long = e; each = λ i l. absurd (omega arith) }
-
-pub tip_more : {p : List ℕ} {c : Counts} {x : ℕ} {cells : List ℕ} → Tips p c x cells → (at v : ℕ) → at ≡ leaves c + x → at < 98304 → v ≡ leaf p c x → Tips p c (x + 1) (set cells at v)
-tip_more {p} {c} {x} {cells} t at v e l w =
-    record {
-      long = length-set cells at v ∙ t.long;
-      each =
-          λ i h.
-          by_eq i x
-          (λ q.
-          let here : leaves c + i ≡ at = omega arith in
-          ap (λ (u : ℕ). get_or (set cells at v) u 0) here ∙ get_or-set_same cells at v 0 (omega (arith, t.long)) ∙ w ∙ ap (leaf p c) (sym q))
-          (λ q. get_or-set_other cells at (leaves c + i) v 0 (λ u. q (omega arith)) ∙ t.each i (omega arith));
-    }
-
-pub tips_all : {p : List ℕ} {c : Counts} {x : ℕ} {cells : List ℕ} → Tips p c x cells → leaves c ≤ x → Tips p c (leaves c) cells
-tips_all t l = record { long = t.long; each = λ i h. t.each i (omega arith) }
 
 -- what stands from y₀ on was not touched
 pub record Kept (y₀ : ℕ) (cells₀ cells : List ℕ) : Type 0 where
@@ -53,9 +37,6 @@ kept_more {y₀} {cells₀} {cells} t y v l =
       long = length-set cells y v ∙ t.long;
       same = λ i h. get_or-set_other cells y i v 0 (λ u. omega arith) ∙ t.same i h;
     }
-
-pub node_none : (n : ℕ) (cells : List ℕ) → Nodes n n cells
-node_none n cells = record { larger = λ i a b. absurd (omega arith) }
 
 pub node_more : {n y₀ : ℕ} {cells : List ℕ} → Nodes n y₀ cells → (y v : ℕ) → y + 1 ≡ y₀ → 1 ≤ y → y < length cells
     → v ≡ max (get_or cells (2 * y) 0) (get_or cells (2 * y + 1) 0) → Nodes n y (set cells y v)
@@ -70,15 +51,6 @@ node_more {n} {y₀} {cells} t y v w l h e =
   where
     under : (i : ℕ) → y ≤ i → max (get_or (set cells y v) (2 * i) 0) (get_or (set cells y v) (2 * i + 1) 0) ≡ max (get_or cells (2 * i) 0) (get_or cells (2 * i + 1) 0)
     under i a = rw (get_or-set_other cells y (2 * i) v 0 (λ u. omega arith), get_or-set_other cells y (2 * i + 1) v 0 (λ u. omega arith)) refl
-
-pub peaks_of : {p : List ℕ} {c : Counts} {y₀ y : ℕ} {cells₀ cells : List ℕ} → c.words ≤ 8184 → y₀ ≡ leaves c → y ≤ 1
-    → Nodes y₀ y cells → Kept y₀ cells₀ cells → Tips p c (leaves c) cells₀ → Peaks p c cells
-peaks_of {c = c} few e l n k t =
-    record {
-      few = few;
-      nodes = record { larger = λ i a b. n.larger i (omega arith) (omega arith) };
-      tips = record { long = k.long ∙ t.long; each = λ i h. k.same (leaves c + i) (omega arith) ∙ t.each i h };
-    }
 
 -- ---- a range of places
 
@@ -150,31 +122,39 @@ edge_fails cells limit l r h f = by_test (all (below cells limit) l r) (λ t. ab
 
 -- ---- where items lie
 
-pub stride_pos : (form : ℕ) → 0 < stride form
-stride_pos zero = omega arith
-stride_pos (suc zero) = omega arith
-stride_pos (suc (suc zero)) = omega arith
-stride_pos (suc (suc (suc zero))) = omega arith
-stride_pos (suc (suc (suc (suc zero)))) = omega arith
-stride_pos (suc (suc (suc (suc (suc form))))) = omega arith
+pub stride_pos : (form : Form) → 0 < stride form
+stride_pos Id = omega arith
+stride_pos Word = omega arith
+stride_pos Variant = omega arith
+stride_pos Arm = omega arith
+stride_pos Name = omega arith
+stride_pos Reference = omega arith
 
-pub stride_most : (form : ℕ) → stride form ≤ 4
-stride_most zero = omega arith
-stride_most (suc zero) = omega arith
-stride_most (suc (suc zero)) = omega arith
-stride_most (suc (suc (suc zero))) = omega arith
-stride_most (suc (suc (suc (suc zero)))) = omega arith
-stride_most (suc (suc (suc (suc (suc form))))) = omega arith
+pub number_most : (form : Form) → number form ≤ 5
+number_most Id = omega arith
+number_most Word = omega arith
+number_most Variant = omega arith
+number_most Arm = omega arith
+number_most Name = omega arith
+number_most Reference = omega arith
+
+numbered : (form : Form) → form_at (number form) ≡ form
+numbered Id = refl
+numbered Word = refl
+numbered Variant = refl
+numbered Arm = refl
+numbered Name = refl
+numbered Reference = refl
 
 -- the lanes of a form are its whole region
-pub lanes : (c : Counts) (form : ℕ) → stride form * lane c form ≡ region c
+pub lanes : (c : Counts) (form : Form) → stride form * lane c form ≡ region c
 unfolding lane
-lanes c zero = omega arith
-lanes c (suc zero) = omega arith
-lanes c (suc (suc zero)) = omega arith
-lanes c (suc (suc (suc zero))) = omega arith
-lanes c (suc (suc (suc (suc zero)))) = omega arith
-lanes c (suc (suc (suc (suc (suc form))))) = omega arith
+lanes c Id = omega arith
+lanes c Word = omega arith
+lanes c Variant = omega arith
+lanes c Arm = omega arith
+lanes c Name = omega arith
+lanes c Reference = omega arith
 
 -- a number written by a whole and a part
 whole_part : (m a y : ℕ) → y < m → ((m * a + y) / m ≡ a) × ((m * a + y) % m ≡ y)
@@ -182,20 +162,15 @@ whole_part m a y l =
     let d : y / m ≡ 0 = div-eq_of_lt l in
     (mul-add-div (omega arith) a y ∙ rw d (add-zero a), mul-add-mod_self_left m a y ∙ mod-eq_of_lt l)
 
-pub lane_pos : (c : Counts) (form : ℕ) → 0 < lane c form
+pub lane_pos : (c : Counts) (form : Form) → 0 < lane c form
 lane_pos c form = pos_right (stride form) (lane c form) (omega (arith, lanes c form))
   where
     pos_right : (b u : ℕ) → 0 < b * u → 0 < u
     pos_right b zero h = absurd (omega (arith, mul-zero b))
     pos_right b (suc u) h = omega arith
 
--- the same of the numbers that the code has
-pub lane_code : {a b : ℕ} (c : Counts) (form : ℕ) → a ≡ region c → b ≡ stride form → 0 < a / b
-unfolding lane
-lane_code c form p q = rw (p, q) (lane_pos c form)
-
 -- the part of a number that lies in its lane
-pub in_place : (c : Counts) (form y : ℕ) → y < region c → place c form y < region c
+pub in_place : (c : Counts) (form : Form) (y : ℕ) → y < region c → place c form y < region c
 unfolding place
 in_place c form y l =
     let b = stride form in
@@ -206,58 +181,58 @@ in_place c form y l =
     omega (arith, lanes c form, mul-le-mul_left b rest, mul-suc b (y % u))
 
 -- item k of the list is the part k further on
-within : (c : Counts) (form j k : ℕ) → j + stride form * k ≤ c.words → j / stride form + k < lane c form
+within : (c : Counts) (form : Form) (j k : ℕ) → j + stride form * k ≤ c.words → j / stride form + k < lane c form
 within c form j k l = lt_of_mul-lt-mul_left (stride form) (omega (arith, mul-add (stride form) (j / stride form) k, div-add-mod j (stride form), lanes c form))
 
-in_region : (c : Counts) (form j k : ℕ) → j + stride form * k ≤ c.words → lane c form * (j % stride form) + (j / stride form + k) < region c
+in_region : (c : Counts) (form : Form) (j k : ℕ) → j + stride form * k ≤ c.words → lane c form * (j % stride form) + (j / stride form + k) < region c
 in_region c form j k l =
     let rest : j % stride form < stride form = mod-lt j (stride_pos form) in
     omega (arith, within c form j k l, lanes c form, mul-le-mul_left (lane c form) rest, mul-suc (lane c form) (j % stride form), mul_comm (lane c form) (stride form))
 
-in_lane : (c : Counts) (form j k : ℕ) → j + stride form * k ≤ c.words → place c form (lane c form * (j % stride form) + (j / stride form + k)) ≡ j + stride form * k
+in_lane : (c : Counts) (form : Form) (j k : ℕ) → j + stride form * k ≤ c.words → place c form (lane c form * (j % stride form) + (j / stride form + k)) ≡ j + stride form * k
 unfolding place
 in_lane c form j k l =
     let e = whole_part (lane c form) (j % stride form) (j / stride form + k) (within c form j k l) in
     rw (e.0, e.1) (omega (arith, mul-add (stride form) (j / stride form) k, div-add-mod j (stride form)))
 
 -- the leaf of item k of a list whose first item starts at word j
-pub leaf_at : (p : List ℕ) (c : Counts) (form j k : ℕ) → j + stride form * k ≤ c.words → leaf p c (spot c form j + k) ≡ weight p c form (j + stride form * k)
+pub leaf_at : (p : List ℕ) (c : Counts) (form : Form) (j k : ℕ) → j + stride form * k ≤ c.words → leaf p c (spot c form j + k) ≡ weight p c form (j + stride form * k)
 unfolding leaf spot
 leaf_at p c form j k l =
-    ap (λ (x : ℕ). weight p c (x / region c) (place c (x / region c) (x % region c))) at
-    ∙ ap (λ (f : ℕ). weight p c f (place c f ((region c * form + y) % region c))) parts.0
+    ap (λ (x : ℕ). weight p c (form_at (x / region c)) (place c (form_at (x / region c)) (x % region c))) at
+    ∙ ap (λ (f : Form). weight p c f (place c f ((region c * number form + y) % region c))) (ap form_at parts.0 ∙ numbered form)
     ∙ ap (λ (z : ℕ). weight p c form (place c form z)) parts.1
     ∙ ap (weight p c form) (in_lane c form j k l)
   where
     y : ℕ
     y = lane c form * (j % stride form) + (j / stride form + k)
 
-    at : region c * form + (lane c form * (j % stride form) + j / stride form) + k ≡ region c * form + y
+    at : region c * number form + (lane c form * (j % stride form) + j / stride form) + k ≡ region c * number form + y
     at = omega arith
 
-    parts : ((region c * form + y) / region c ≡ form) × ((region c * form + y) % region c ≡ y)
-    parts = whole_part (region c) form y (in_region c form j k l)
+    parts : ((region c * number form + y) / region c ≡ number form) × ((region c * number form + y) % region c ≡ y)
+    parts = whole_part (region c) (number form) y (in_region c form j k l)
 
 -- the last leaf of a list lies in the tree
-pub spot_end : (c : Counts) (form j n : ℕ) → form < 6 → j + stride form * n ≤ c.words + 1 → spot c form j + n ≤ leaves c
+pub spot_end : (c : Counts) (form : Form) (j n : ℕ) → j + stride form * n ≤ c.words + 1 → spot c form j + n ≤ leaves c
 unfolding spot
-spot_end c form j n f l =
+spot_end c form j n l =
     let b = stride form in
     let u = lane c form in
     let rest : j % b < b = mod-lt j (stride_pos form) in
     let within : j / b + n ≤ u = le_of_mul-le-mul_left (omega (arith, mul-add b (j / b) n, div-add-mod j b, lanes c form)) (stride_pos form) in
-    let next : form + 1 ≤ 6 = omega arith in
-    omega (arith, lanes c form, mul-le-mul_left u rest, mul-suc u (j % b), mul_comm u b, mul-le-mul_left (region c) next, mul-add (region c) form 1)
+    let next : number form + 1 ≤ 6 = omega (arith, number_most form) in
+    omega (arith, lanes c form, mul-le-mul_left u rest, mul-suc u (j % b), mul_comm u b, mul-le-mul_left (region c) next, mul-add (region c) (number form) 1)
 
 -- what a range of cells says of the items of a list
-pub range_items : (p : List ℕ) (c : Counts) (cells : List ℕ) → Peaks p c cells → (form j n limit from : ℕ) → from ≡ spot c form j → form < 6 → j + stride form * n ≤ c.words + 1
+pub range_items : (p : List ℕ) (c : Counts) (cells : List ℕ) → Peaks p c cells → (form : Form) (j n limit from : ℕ) → from ≡ spot c form j → j + stride form * n ≤ c.words + 1
     → all (below cells limit) (leaves c + from) (leaves c + from + n) ≡ all (λ k. ltb (weight p c form (j + stride form * k)) limit) 0 n
-range_items p c cells t form j n limit from e f l =
+range_items p c cells t form j n limit from e l =
     same_all (below cells limit) (λ k. ltb (weight p c form (j + stride form * k)) limit) (leaves c + from) n
     (λ k h.
     let q : leaves c + from + k ≡ leaves c + (from + k) = omega arith in
     ap (λ (v : ℕ). ltb v limit)
     (ap (λ (x : ℕ). get_or cells x 0) q
-    ∙ t.tips.each (from + k) (omega (arith, spot_end c form j n f l))
+    ∙ t.tips.each (from + k) (omega (arith, spot_end c form j n l))
     ∙ ap (λ (x : ℕ). leaf p c (x + k)) e
     ∙ leaf_at p c form j k (omega (arith, stride_pos form, mul-le-mul_left (stride form) h, mul-suc (stride form) k))))

@@ -2,12 +2,12 @@
 --     Filled      its invariant: every entry from k on is right, and so is the last one found
 --     last        at the start only the entry past the last word
 --     more        one entry more
---     end_most    the end that is stored next is no place past the last word
+--     end_most    the last one found is no place past the last word
 --     by_runs     a list of ids is in range exactly if it ends where its run does, or before
 -- Assumes nothing.
 use Prim.Native.Nat.{ℕ, ◌+◌, ◌<◌, ◌≤◌}
 use mathlib.Core.Path.{◌≡◌, sym, ap, ◌∙◌}
-use mathlib.Core.Bool.{Bool, false}
+use mathlib.Core.Bool.{false}
 use mathlib.Core.List.{List}
 use native.Mathlib.Omega.{arith}
 use lib.Dec.{leb, ltb}
@@ -15,11 +15,11 @@ use lib.ListN.{length, get_or, set, length-set}
 use lib.Seq.{get_or-set_same, get_or-set_other}
 use borrow.Author.Tests.{lt-leb, leb-true, leb-false}
 use Rattle.laws.specs.Choice.{pick}
-use Rattle.laws.proofs.Choice.{by_eq, by_test, pick_all}
+use Rattle.laws.proofs.Choice.{by_eq, by_test}
 use Rattle.laws.proofs.First.{first_at, first_past, Until, until_is, all_until}
 use Rattle.pack.specs.Lists.{list_word, list_len, list_item}
 use Rattle.pack.specs.declared.counts.Counts.{Counts}
-use Rattle.lists.specs.Runs.{run_end, Runs}
+use Rattle.lists.specs.Runs.{run_end}
 use Rattle.lists.specs.Lists.{list_fits, ids_fit}
 
 pub record Filled (p : List ℕ) (c : Counts) (limit k end : ℕ) (ends : List ℕ) : Type 0 where
@@ -56,14 +56,11 @@ module _ (p : List ℕ) (c : Counts) (limit : ℕ) (few : c.words ≤ 8184) wher
           ∙ ap (λ (u : ℕ). pick (ltb (list_word p c k) limit) u k) (f.now_at ∙ ap (run_end p c limit) (sym w))
           ∙ sym (first_at (λ k. ltb (list_word p c k) limit) (λ k. k) c.words k c.words (omega (arith, f.low)))
 
-  pub filled : {k end : ℕ} {ends : List ℕ} → k ≤ 0 → Filled p c limit k end ends → Runs p c limit ends
-  filled h f = record { each = λ j l. f.right j (omega arith) l }
-
-pub end_most : {p : List ℕ} {c : Counts} {limit k₀ end : ℕ} {ends : List ℕ} → Filled p c limit k₀ end ends → (b : Bool) (k x : ℕ) → k + 1 ≡ k₀ → x ≡ pick b end k → x ≤ c.words
-end_most {p} {c} {limit} {k₀} {end} f b k x e w = rw w (pick_all (λ (u : ℕ). u ≤ c.words) b (omega (arith, f.now_at, u.high)) (omega (arith, f.low)))
+pub end_most : {p : List ℕ} {c : Counts} {limit k end : ℕ} {ends : List ℕ} → Filled p c limit k end ends → end ≤ c.words
+end_most {p} {c} {limit} {k} f = omega (arith, f.now_at, u.high)
   where
-    u : Until (λ k. ltb (list_word p c k) limit) k₀ c.words (run_end p c limit k₀)
-    u = until_is (λ k. ltb (list_word p c k) limit) k₀ c.words f.low
+    u : Until (λ k. ltb (list_word p c k) limit) k c.words (run_end p c limit k)
+    u = until_is (λ k. ltb (list_word p c k) limit) k c.words f.low
 
 -- a list of ids that starts inside the list words
 pub by_runs : (p : List ℕ) (c : Counts) (limit s : ℕ) → s < c.words → leb (s + 1 + list_len p c s) (run_end p c limit (s + 1)) ≡ ids_fit p c limit s

@@ -1,4 +1,5 @@
 pub mod Limits
+pub mod Forms
 pub mod Runs
 pub mod Lists
 pub mod Names

@@ -1,12 +1,17 @@
 -- All items of all lists as the leaves of one tree, whose nodes are the larger of the two below them.
 -- With it a list is judged in few steps, however long it is, however many rows name it and however lists overlap.
-use Rattle.std.specs.Prelude.{ℕ, zero, suc, ◌+◌, ◌*◌, ◌-◌, ◌/◌, ◌%◌, ◌≤◌, ◌<◌, max, min, ◌≡◌, Bool, ◌&&◌, ◌||◌, List, [], ◌∷◌, eqb, leb, ltb, length, get_or}
-use Rattle.laws.specs.Choice.{pick, by_kind}
+use Rattle.std.specs.Prelude.{ℕ, zero, suc, ◌+◌, ◌*◌, ◌-◌, ◌/◌, ◌%◌, ◌≤◌, ◌<◌, max, min, ◌≡◌, Bool, ◌&&◌, ◌||◌, List, eqb, leb, ltb, length, get_or}
+use Rattle.laws.specs.Choice.{pick}
 use Rattle.pack.specs.Lists.{list_word}
 use Rattle.pack.specs.declared.counts.Counts.{Counts}
 use Rattle.lists.specs.Limits.{names, wild}
+use Rattle.lists.specs.Forms.{number, form_at, stride}
 use Rattle.lists.specs.Lists.{ids_fit, slots_fit}
+use Rattle.lists.specs.declared.forms.Form.{Form}
+use Rattle.lists.specs.declared.forms.Form.TheVariants.{Id, Word, Variant, Arm, Name, Reference}
+use Rattle.lists.specs.Runs.{Runs}
 use Rattle.lists.specs.declared.lists.Items.{Items}
+use Rattle.lists.specs.declared.tables.Tables.{Tables}
 use Rattle.lists.specs.declared.lists.Items.TheVariants.{Ids, Pairs, Variants, Arms}
 
 -- ---- what stands in a leaf: what the item that starts at word j has to stay below a limit with
@@ -50,19 +55,16 @@ earlier p c j = last_of (λ i. eqb (key p c i) (key p c j)) j
 abbrev pub rise_weight : List ℕ → Counts → ℕ → ℕ
 rise_weight p c j = pick (ltb (list_word p c j) (list_word p c (j + 1))) 0 never
 
--- the forms of items: 0 ids, 1 words of pairs, 2 variants, 3 arms, 4 names, 5 references
-abbrev pub forms : ℕ
-forms = 6
-
-unfoldable pub weight : List ℕ → Counts → ℕ → ℕ → ℕ
-weight p c form j =
-    by_kind j form 0 (list_word p c ∷ list_word p c ∷ variant_weight p c ∷ arm_weight p c ∷ earlier p c ∷ rise_weight p c ∷ [])
+-- by the item's form
+unfoldable pub weight : List ℕ → Counts → Form → ℕ → ℕ
+weight p c Id j = list_word p c j
+weight p c Word j = list_word p c j
+weight p c Variant j = variant_weight p c j
+weight p c Arm j = arm_weight p c j
+weight p c Name j = earlier p c j
+weight p c Reference j = rise_weight p c j
 
 -- ---- where it stands
-
--- how many words an item of a form takes
-abbrev pub stride : ℕ → ℕ
-stride form = get_or {A = ℕ} (1 ∷ 2 ∷ 2 ∷ 4 ∷ 2 ∷ []) form 1
 
 -- each form has so many leaves, for each word one, in as many lanes as an item takes words: the items of a list lie side by side
 abbrev pub region : Counts → ℕ
@@ -71,19 +73,19 @@ region c = 4 * (c.words / 4 + 1)
 abbrev pub leaves : Counts → ℕ
 leaves c = 6 * region c
 
-unfoldable pub lane : Counts → ℕ → ℕ
+unfoldable pub lane : Counts → Form → ℕ
 lane c form = region c / stride form
 
 -- the leaf of the item that starts at word j
-unfoldable pub spot : Counts → ℕ → ℕ → ℕ
-spot c form j = region c * form + (lane c form * (j % stride form) + j / stride form)
+unfoldable pub spot : Counts → Form → ℕ → ℕ
+spot c form j = region c * number form + (lane c form * (j % stride form) + j / stride form)
 
 -- and the word where the item of a form's leaf y starts
-unfoldable pub place : Counts → ℕ → ℕ → ℕ
+unfoldable pub place : Counts → Form → ℕ → ℕ
 place c form y = stride form * (y % lane c form) + y / lane c form
 
 unfoldable pub leaf : List ℕ → Counts → ℕ → ℕ
-leaf p c x = weight p c (x / region c) (place c (x / region c) (x % region c))
+leaf p c x = weight p c (form_at (x / region c)) (place c (form_at (x / region c)) (x % region c))
 
 -- ---- the tree
 
@@ -104,6 +106,13 @@ pub record Peaks (p : List ℕ) (c : Counts) (cells : List ℕ) : Type 0 where
 -- the table that the leaves of names are taken from
 pub record Earlier (p : List ℕ) (c : Counts) (places : List ℕ) : Type 0 where
   pub each : (j : ℕ) → j < region c → get_or places j 0 ≡ earlier p c j
+
+-- all tables: lists of variants and of arms are judged by the first two
+pub record Right (p : List ℕ) (c : Counts) (tables : Tables) : Type 0 where
+  pub few : c.words ≤ 8184
+  pub types_below : Runs p c c.types tables.fields
+  pub slots_below : Runs p c 256 tables.slots
+  pub names_earlier : Earlier p c tables.earlier
 
 -- the places l and r - 1 at the ends of a range, where they have no neighbour in it under the same node
 abbrev pub edges_below : List ℕ → ℕ → ℕ → ℕ → Bool

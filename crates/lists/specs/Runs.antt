@@ -11,9 +11,3 @@ run_end p c limit j = until (λ k. ltb (list_word p c k) limit) j c.words
 
 pub record Runs (p : List ℕ) (c : Counts) (limit : ℕ) (places : List ℕ) : Type 0 where
   pub each : (j : ℕ) → j ≤ c.words → get_or places j 0 ≡ run_end p c limit j
-
--- the two tables that lists of variants and of arms are judged by
-pub record Nested (p : List ℕ) (c : Counts) (fields slots : List ℕ) : Type 0 where
-  pub few : c.words ≤ 8184
-  pub types_below : Runs p c c.types fields
-  pub slots_below : Runs p c 256 slots

@@ -2,14 +2,15 @@
 #![tactic(auto)]
 
 mod earlier;
+mod forms;
 mod limits;
 mod lists;
 mod names;
 mod peaks;
 mod runs;
+mod tables;
 mod tree;
 mod weights;
-mod wide;
 
 pub use limits::{EXPLICITS, LITERALS, NAMES, OPERATORS, SLOTS, VARIABLES, optional_below};
 pub use lists::{Items, items_fit};

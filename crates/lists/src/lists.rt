@@ -4,8 +4,8 @@ ghost use Rattle.lists.specs.Lists.{list_fits, words_of, item_fits, items_fit};
 ghost use Rattle.lists.specs.Peaks.{Peaks as PeaksOf, Narrow};
 ghost use Rattle.laws.specs.First.{all};
 
+use crate::forms::Form;
 use crate::peaks::{Peaks, items_below};
-use laws::both;
 use pack::{Counts, list_len};
 
 // What the items of a list are, with what their words stay below.
@@ -20,15 +20,6 @@ pub enum Items {
     // Four words: a variant's name or `_`, a slot list+1 or 0, a guard+1 or 0, a body.
     Arms(u32),
 }
-
-// The forms of their leaves in the tree.
-const IDS: u32 = 0;
-
-const PAIRS: u32 = 1;
-
-const VARIANTS: u32 = 2;
-
-const ARMS: u32 = 3;
 
 // Whether so many words after the count of the list at s lie in the table.
 pub fn list_fits(c: Counts, s: u32, words: u32) -> bool
@@ -62,11 +53,7 @@ pub fn items_fit(
     ensures { result ≡ items_fit pack.now c items s }
 {
     let n = list_len(pack, c, s);
-    if list_fits(c, s, words_of(items, n)) {
-        each_fits(pack, c, items, s, n, peaks)
-    } else {
-        false
-    }
+    list_fits(c, s, words_of(items, n)) && each_fits(pack, c, items, s, n, peaks)
 }
 
 // Whether each of the n items of the list at s is in range.
@@ -82,12 +69,12 @@ fn each_fits(
     ensures { result ≡ all (item_fits pack.now c items s) 0 n }
 {
     match items {
-        Items::Ids(limit) => items_below(pack, c, IDS, s + 1, n, limit, peaks),
-        Items::Pairs(first, second) => both(
-            items_below(pack, c, PAIRS, s + 1, n, first, peaks),
-            items_below(pack, c, PAIRS, s + 2, n, second, peaks),
-        ),
-        Items::Variants => items_below(pack, c, VARIANTS, s + 1, n, 1, peaks),
-        Items::Arms(limit) => items_below(pack, c, ARMS, s + 1, n, limit, peaks),
+        Items::Ids(limit) => items_below(pack, c, Form::Id, s + 1, n, limit, peaks),
+        Items::Pairs(first, second) => {
+            items_below(pack, c, Form::Word, s + 1, n, first, peaks)
+                && items_below(pack, c, Form::Word, s + 2, n, second, peaks)
+        }
+        Items::Variants => items_below(pack, c, Form::Variant, s + 1, n, 1, peaks),
+        Items::Arms(limit) => items_below(pack, c, Form::Arm, s + 1, n, limit, peaks),
     }
 }

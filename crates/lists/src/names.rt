@@ -5,15 +5,10 @@ ghost use Rattle.lists.specs.Lists.{list_fits};
 ghost use Rattle.lists.specs.Names.{names_differ, items_rise, Named};
 ghost use Rattle.lists.specs.Peaks.{Peaks as PeaksOf};
 
+use crate::forms::Form;
 use crate::lists::list_fits;
 use crate::peaks::{Peaks, items_below};
-use crate::weights::before;
 use pack::{Counts, list_len};
-
-// The forms of names and of references.
-const NAMED: u32 = 4;
-
-const RISING: u32 = 5;
 
 // Whether no name of the pairs at s repeats: each stood last before the first of them.
 pub fn names_differ(pack: &[u8], c: Counts, s: u32, peaks: &[u16; Peaks::CAPACITY]) -> bool
@@ -22,7 +17,7 @@ pub fn names_differ(pack: &[u8], c: Counts, s: u32, peaks: &[u16; Peaks::CAPACIT
 {
     let n = list_len(pack, c, s);
     if list_fits(c, s, 2 * n) {
-        items_below(pack, c, NAMED, s + 1, n, s + 1, peaks)
+        items_below(pack, c, Form::Name, s + 1, n, s + 1, peaks)
     } else {
         true
     }
@@ -35,7 +30,15 @@ pub fn items_rise(pack: &[u8], c: Counts, s: u32, peaks: &[u16; Peaks::CAPACITY]
 {
     let n = list_len(pack, c, s);
     if list_fits(c, s, n) {
-        items_below(pack, c, RISING, s + 1, before(n), 1, peaks)
+        items_below(
+            pack,
+            c,
+            Form::Reference,
+            s + 1,
+            n.saturating_sub(1),
+            1,
+            peaks,
+        )
     } else {
         true
     }

@@ -2,14 +2,11 @@
 // A range of items is judged by the few nodes that cover it, so many rows over one list, or over lists that overlap, cost little.
 ghost use Rattle.std.specs.Prelude.{◌≡◌, ◌+◌, ◌*◌, ◌≤◌, ◌<◌, ltb, length, get_or, replicate};
 ghost use Rattle.laws.specs.First.{all};
-ghost use Rattle.lists.specs.Runs.{Nested};
-ghost use Rattle.lists.specs.Peaks.{weight as weight_of, stride as stride_of, region as region_of, leaves as leaves_of, lane as lane_of, spot as spot_of, place as place_of, leaf, edges_below, Earlier, Tips, Nodes, Peaks as PeaksOf};
+ghost use Rattle.lists.specs.Forms.{stride};
+ghost use Rattle.lists.specs.Peaks.{weight as weight_of, region as region_of, leaves as leaves_of, lane as lane_of, spot as spot_of, place as place_of, leaf, edges_below, Right, Tips, Nodes, Peaks as PeaksOf};
 
-use crate::earlier::Places;
-use crate::runs::Runs;
-use crate::weights::{larger, weight};
-use crate::wide::wide;
-use laws::{both, either};
+use crate::forms::Form;
+use crate::tables::Tables;
 use pack::Counts;
 
 #[derive(Drop)]
@@ -30,23 +27,6 @@ impl Peaks {
     }
 }
 
-// The forms of items: ids, words of pairs, variants, arms, names, references.
-const FORMS: u32 = 6;
-
-// How many words an item of a form takes.
-fn stride(form: u32) -> u32
-    ensures { result ≡ stride_of form }
-{
-    match form {
-        0 => 1,
-        1 => 2,
-        2 => 2,
-        3 => 4,
-        4 => 2,
-        _ => 1,
-    }
-}
-
 // How many leaves a form has.
 pub fn region(c: Counts) -> u32
     requires { c.words ≤ 8184 }
@@ -57,62 +37,45 @@ pub fn region(c: Counts) -> u32
 }
 
 // The leaf of the item that starts at word j.
-fn spot(c: Counts, form: u32, j: u32) -> u32
-    requires { (c.words ≤ 8184) × (form < 6) × (j < 65536) }
+fn spot(c: Counts, form: Form, j: u32) -> u32
+    requires { (c.words ≤ 8184) × (j < 65536) }
     ensures { result ≡ spot_of c form j }
 {
     let all = region(c);
-    let by = stride(form);
+    let by = form.stride();
     let lane = all / by;
-    all * form + (lane * (j % by) + j / by)
+    all * form.number() + (lane * (j % by) + j / by)
 }
 
 // The word where the item of a form's leaf y starts.
-fn place(c: Counts, form: u32, y: u32) -> u32
+fn place(c: Counts, form: Form, y: u32) -> u32
     requires { (c.words ≤ 8184) × (y < region_of c) }
     ensures { result ≡ place_of c form y }
 {
-    let by = stride(form);
+    let by = form.stride();
     let lane = region(c) / by;
     by * (y % lane) + y / lane
 }
 
 // What stands in leaf x.
-fn leaf_at(
-    pack: &[u8],
-    c: Counts,
-    x: u32,
-    fields: &[u16; Runs::CAPACITY],
-    slots: &[u16; Runs::CAPACITY],
-    earlier: &[u16; Places::CAPACITY],
-) -> u16
-    requires { Nested pack.now c fields.now slots.now × Earlier pack.now c earlier.now }
+fn leaf_at(pack: &[u8], c: Counts, x: u32, tables: &Tables) -> u16
+    requires { Right pack.now c tables.now }
     ensures { result ≡ leaf pack.now c x }
 {
     let all = region(c);
-    let form = x / all;
+    let form = Form::at(x / all);
     let j = place(c, form, x % all);
-    weight(pack, c, form, j, fields, slots, earlier)
+    tables.weight(pack, c, form, j)
 }
 
 // Fills the leaves.
-fn fill_leaves(
-    pack: &[u8],
-    c: Counts,
-    fields: &[u16; Runs::CAPACITY],
-    slots: &[u16; Runs::CAPACITY],
-    earlier: &[u16; Places::CAPACITY],
-    cells: &mut [u16; Peaks::CAPACITY],
-)
-    requires { Nested pack.now c fields.now slots.now × Earlier pack.now c earlier.now × (length cells.old ≡ 98304) }
+fn fill_leaves(pack: &[u8], c: Counts, tables: &Tables, cells: &mut [u16; Peaks::CAPACITY])
+    requires { Right pack.now c tables.now }
     ensures { Tips pack.now c (leaves_of c) cells.new }
 {
-    let n = FORMS * region(c);
-    let mut x = 0;
-    while x < n {
-        let at = (n + x) as usize;
-        cells[at] = leaf_at(pack, c, x, fields, slots, earlier);
-        x += 1;
+    let n = Form::COUNT * region(c);
+    for x in 0..n {
+        cells[(n + x) as usize] = leaf_at(pack, c, x, tables);
     }
 }
 
@@ -121,26 +84,17 @@ fn fill_nodes(pack: &[u8], c: Counts, cells: &mut [u16; Peaks::CAPACITY])
     requires { (c.words ≤ 8184) × Tips pack.now c (leaves_of c) cells.old }
     ensures { PeaksOf pack.now c cells.new }
 {
-    let mut y = FORMS * region(c);
-    while 1 < y {
-        y -= 1;
+    for y in (1..Form::COUNT * region(c)).rev() {
         let at = y as usize;
-        cells[at] = larger(cells[2 * at], cells[2 * at + 1]);
+        cells[at] = cells[2 * at].max(cells[2 * at + 1]);
     }
 }
 
-pub fn fill_peaks(
-    pack: &[u8],
-    c: Counts,
-    fields: &[u16; Runs::CAPACITY],
-    slots: &[u16; Runs::CAPACITY],
-    earlier: &[u16; Places::CAPACITY],
-    cells: &mut [u16; Peaks::CAPACITY],
-)
-    requires { Nested pack.now c fields.now slots.now × Earlier pack.now c earlier.now × (length cells.old ≡ 98304) }
+pub fn fill_peaks(pack: &[u8], c: Counts, tables: &Tables, cells: &mut [u16; Peaks::CAPACITY])
+    requires { Right pack.now c tables.now }
     ensures { PeaksOf pack.now c cells.new }
 {
-    fill_leaves(pack, c, fields, slots, earlier, cells);
+    fill_leaves(pack, c, tables, cells);
     fill_nodes(pack, c, cells);
 }
 
@@ -151,12 +105,9 @@ fn edges_below(cells: &[u16; Peaks::CAPACITY], l: u32, r: u32, limit: u32) -> bo
 {
     let low = l as usize;
     let high = (r - 1) as usize;
-    let first = wide(cells[low]);
-    let last = wide(cells[high]);
-    both(
-        either(l % 2 == 0, first < limit),
-        either(r % 2 == 0, last < limit),
-    )
+    let first = u32::from(cells[low]);
+    let last = u32::from(cells[high]);
+    (l % 2 == 0 || first < limit) && (r % 2 == 0 || last < limit)
 }
 
 // Whether each of n leaves is below the limit. What lies between the ends of a range is judged by the nodes above it.
@@ -164,16 +115,15 @@ fn range_below(c: Counts, cells: &[u16; Peaks::CAPACITY], from: u32, n: u32, lim
     requires { (c.words ≤ 8184) × Nodes (leaves_of c) 1 cells.now × (from + n ≤ leaves_of c) }
     ensures { result ≡ all (λ x. ltb (get_or cells.now x 0) limit) (leaves_of c + from) (leaves_of c + from + n) }
 {
-    let mut l = FORMS * region(c) + from;
+    let mut l = Form::COUNT * region(c) + from;
     let mut r = l + n;
     while l < r {
         let fit = edges_below(cells, l, r, limit);
-        if fit {
-            l = (l + 1) / 2;
-            r = r / 2;
-        } else {
+        if !fit {
             return false;
         }
+        l = (l + 1) / 2;
+        r = r / 2;
     }
     true
 }
@@ -182,14 +132,14 @@ fn range_below(c: Counts, cells: &[u16; Peaks::CAPACITY], from: u32, n: u32, lim
 pub fn items_below(
     pack: &[u8],
     c: Counts,
-    form: u32,
+    form: Form,
     j: u32,
     n: u32,
     limit: u32,
     peaks: &[u16; Peaks::CAPACITY],
 ) -> bool
-    requires { PeaksOf pack.now c peaks.now × (form < 6) × (j + stride_of form * n ≤ c.words + 1) }
-    ensures { result ≡ all (λ k. ltb (weight_of pack.now c form (j + stride_of form * k)) limit) 0 n }
+    requires { PeaksOf pack.now c peaks.now × (j + stride form * n ≤ c.words + 1) }
+    ensures { result ≡ all (λ k. ltb (weight_of pack.now c form (j + stride form * k)) limit) 0 n }
 {
     let from = spot(c, form, j);
     range_below(c, peaks, from, n, limit)

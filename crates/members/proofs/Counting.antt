@@ -1,58 +1,68 @@
--- Tests of the places of a list: the steps of a loop that looks for one, and of one that counts them.
---     AnyLeft, any_goes, any_stops, any_ends        whether a place passes
---     Counted, count_none, count_more, count_all    how many do
---     stored_none, stored_some                      what is stored as x+1
---     both_told                                     a test of both
+-- Tests of the places of a list, as iterators over a range tell them.
+--     any_listed      whether a place passes
+--     count_listed, count_filtered    how many do
+-- And what is stored as x+1 (stored_none, stored_some).
 -- Assumes nothing.
 use mathlib.Core.Path.{◌≡◌, refl, sym, ap, ◌∙◌}
-use mathlib.Core.Bool.{Bool, true, false, not, ◌&&◌}
-use Prim.Native.Nat.{ℕ, zero, suc, ◌+◌, ◌-◌, ◌<◌, ◌≤◌}
+use mathlib.Core.Bool.{Bool, cond, true, false, not}
+use Prim.Native.Nat.{ℕ, zero, suc, ◌+◌, ◌-◌}
 use native.Mathlib.Numerals.{add-one}
 use native.Mathlib.Omega.{arith}
+use mathlib.Core.List.{List}
+use lib.ListN.{length}
+use denote.Ref.{Bor}
+use denote.Param.Members.{Mut}
+use Rattle.std.specs.declared.iter.Filter.{Filter}
+use Rattle.std.specs.declared.ops.Range.{Range}
+use Rattle.std.proofs.iter.Yields.{nat_range_steps}
+use Rattle.std.proofs.lemmas.Iterator.{YieldsList-from_range}
+use Rattle.std.proofs.lemmas.Iterator.Consumers.{YieldsList-from_filter, count_from_yields_List}
+use Rattle.std.proofs.lemmas.List.Sums.{length-filter}
+use Rattle.std.specs.Fn.{CalledAt}
+use Rattle.std.specs.Iterator.{Drains}
+use Rattle.std.specs.Iterator.Adapters.{filter_source, filter_callee, filter_steps}
+use Rattle.std.specs.List.{list_any, count_by, fold, range_with_len}
+use Rattle.laws.specs.First.{first, walk}
 use Rattle.laws.specs.Lists.{bit}
-use Rattle.laws.proofs.First.{Left, goes, stops, ends}
+use Rattle.laws.specs.Choice.{pick}
+use Rattle.laws.proofs.Choice.{by_test}
 use Rattle.names.specs.Tally.{tally}
-use Rattle.names.proofs.Tally.{bit_few}
+use Rattle.names.proofs.Tally.{tally_more}
 use Rattle.members.specs.Places.{any, perhaps}
 
--- what is left, from place i on, says what the whole says
-pub record AnyLeft (test : ℕ → Bool) (i n : ℕ) (whole : Bool) : Type 0 where
-  pub left : Left (λ k. not (test k)) (λ k. true) false i n whole
+-- whether a place passes, as an iterator over a range answers
+any_walked : (test : ℕ → Bool) (n i : ℕ) → list_any test (range_with_len i n) ≡ walk (λ k. not (test k)) (λ k. true) false i n
+unfolding walk pick
+any_walked test zero i = refl
+any_walked test (suc n) i = by_test (test i) (λ t. rw t refl) (λ f. rw (f, add-one) (any_walked test n (suc i)))
 
-pub any_begins : (test : ℕ → Bool) (n : ℕ) → AnyLeft test 0 n (any test n)
-unfolding any
-any_begins test n = record { left = record { says = refl } }
+pub any_listed : (test : ℕ → Bool) {n m : ℕ} {r : Bool} → n ≡ m → r ≡ list_any test (range_with_len 0 n) → r ≡ any test m
+unfolding any first
+any_listed test {n} {m} q e = let z : m - 0 ≡ m = omega arith in rw z (e ∙ rw q (any_walked test m 0))
 
-module _ {test : ℕ → Bool} {i n : ℕ} {whole : Bool} (inv : AnyLeft test i n whole) where
-  pub any_goes : {b : Bool} → i < n → b ≡ test i → b ≡ false → AnyLeft test (i + 1) n whole
-  any_goes l e f = record { left = goes inv.left l (ap not (sym e ∙ f)) }
+one_bit : (b : Bool) → cond b 1 0 ≡ bit b
+one_bit true = refl
+one_bit false = refl
 
-  pub any_stops : {b : Bool} → i < n → b ≡ test i → b ≡ true → true ≡ whole
-  any_stops l e t = stops inv.left l (ap not (sym e ∙ t))
+-- how many places pass, as an iterator over a range counts them
+count_walked : (test : ℕ → Bool) (n i : ℕ) → fold (λ (a x : ℕ). a + cond (test x) 1 0) (tally test i) (range_with_len i n) ≡ tally test (i + n)
+count_walked test zero i = let e : i + 0 ≡ i = omega arith in rw e refl
+count_walked test (suc n) i =
+    let e : i + suc n ≡ i + 1 + n = omega arith in
+    let f : tally test i + cond (test i) 1 0 ≡ tally test (i + 1) = omega (arith, tally_more test i, one_bit (test i)) in
+    ap (λ (k : ℕ). fold (λ (a x : ℕ). a + cond (test x) 1 0) k (range_with_len (i + 1) n)) f ∙ count_walked test n (i + 1) ∙ ap (tally test) (sym e)
 
-  pub any_ends : n ≤ i → false ≡ whole
-  any_ends l = ends inv.left l
-
--- the places below k are counted
-pub record Counted (test : ℕ → Bool) (n k r : ℕ) : Type 0 where
-  pub low : k ≤ n
-  pub few : r ≤ k
-  pub counts : r ≡ tally test k
-
-pub count_none : (test : ℕ → Bool) (n : ℕ) → Counted test n 0 0
+pub count_listed : (test : ℕ → Bool) {n m r : ℕ} → n ≡ m → r ≡ count_by test (range_with_len 0 n) → r ≡ tally test m
 unfolding tally
-count_none test n = record { low = omega arith; few = omega arith; counts = refl }
+count_listed test {n} {m} q e = let z : 0 + m ≡ m = omega arith in e ∙ rw q (count_walked test m 0) ∙ ap (tally test) z
 
-module _ {test : ℕ → Bool} {n k r : ℕ} (inv : Counted test n k r) where
-  pub count_more : {b : Bool} {x : ℕ} → k < n → x ≡ bit b → b ≡ test k → Counted test n (k + 1) (r + x)
-  unfolding tally
-  count_more {b = b} l e t = record { low = omega arith; few = omega (arith, inv.few, bit_few b); counts = rw (add-one, inv.counts, e, t) }
-
-  pub count_room : {x : ℕ} (b : Bool) → k < n → x ≡ bit b → n < 65536 → r + x < 4294967296
-  count_room b l e h = omega (arith, inv.few, bit_few b)
-
-  pub count_all : n ≤ k → r ≡ tally test n
-  count_all l = let e : k ≡ n = omega (arith, inv.low) in inv.counts ∙ ap (tally test) e
+-- what a range counts that is filtered by a closure, which computes the test
+pub count_filtered : {F : Type 0} {n m r : ℕ} {s : Filter (Range ℕ) F} {f : F} {g : Mut F (Bor ℕ × Unit {0}) Bool} (test : ℕ → Bool) → n ≡ m
+    → (xs : List ℕ) × Drains (filter_steps nat_range_steps g) s xs × (r ≡ length xs) → filter_source s ≡ record { start = 0; end = n } → filter_callee s ≡ f
+    → ((x : ℕ) (b : Bool) (q : F) → CalledAt g f x b q → (q ≡ f) × (b ≡ test x)) → r ≡ tally test m
+count_filtered {n = n} {g = g} test q ran source callee calls =
+    count_listed test q
+    (count_from_yields_List _ _ ran (YieldsList-from_filter g test (YieldsList-from_range 0 n n source (omega arith)) callee calls) ∙ length-filter test (range_with_len 0 n))
 
 module _ {A : Type 0} {z : A} (none : A) (some : ℕ → A) where
   pub stored_none : {x : ℕ} (y : ℕ) → x ≡ y → x ≡ 0 → z ≡ none → z ≡ perhaps none some y
@@ -62,6 +72,3 @@ module _ {A : Type 0} {z : A} (none : A) (some : ℕ → A) where
   pub stored_some : {x : ℕ} (y : ℕ) → x ≡ y → (x ≡ 0 → ⊥) → z ≡ some (x - 1) → z ≡ perhaps none some y
   stored_some zero e h q = absurd (h e)
   stored_some (suc y) e h q = let w : suc y - 1 ≡ y = omega arith in q ∙ ap (λ (k : ℕ). some (k - 1)) e ∙ ap some w
-
-pub both_told : {a b x y r : Bool} → r ≡ (a && b) → a ≡ x → b ≡ y → r ≡ (x && y)
-both_told q f g = q ∙ rw (f, g) refl

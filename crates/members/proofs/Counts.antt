@@ -4,6 +4,7 @@
 --     tally_zero, zero_tally   none is counted
 --     any_or                   one passes one test or the other
 --     tally_full               all are
+--     tally_same               two tests that agree count the same
 --     not_bit                  a test stored as a number
 -- Assumes nothing.
 use mathlib.Core.Path.{◌≡◌, refl, sym, ap, ◌∙◌}
@@ -59,6 +60,11 @@ not_bit false = refl
 bit_zero : (b : Bool) → bit b ≡ 0 → b ≡ false
 bit_zero true e = absurd (omega arith)
 bit_zero false e = refl
+
+pub tally_same : (f g : ℕ → Bool) → ((k : ℕ) → f k ≡ g k) → (n : ℕ) → tally f n ≡ tally g n
+unfolding tally
+tally_same f g r zero = refl
+tally_same f g r (suc n) = rw (tally_same f g r n, r n) refl
 
 module _ (test : ℕ → Bool) where
   pub tally_zero : (n : ℕ) → tally test n ≡ 0 → (k : ℕ) → k < n → test k ≡ false

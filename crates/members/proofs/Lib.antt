@@ -1,5 +1,4 @@
 pub mod Counting
-pub mod Joins
 pub mod Counts
 pub mod Finding
 pub mod Promises

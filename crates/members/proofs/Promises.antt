@@ -6,10 +6,11 @@
 use mathlib.Core.Path.{◌≡◌, refl, sym, ◌∙◌}
 use mathlib.Core.List.{List}
 use mathlib.Core.Bool.{Bool, true, false, not}
-use Prim.Native.Nat.{ℕ, zero, suc, ◌<◌}
+use Prim.Native.Nat.{ℕ, ◌<◌}
 use native.Mathlib.Omega.{arith}
 use lib.Dec.{eqb}
 use borrow.Author.Tests.{not-true, not-false, eqb-true, eq-eqb, ltb-true, lt-ltb}
+use Rattle.std.proofs.Common.{Option, Some, None, option_map, unwrap_or}
 use Rattle.laws.specs.Choice.{pick}
 use Rattle.laws.proofs.Choice.{fails}
 use Rattle.laws.proofs.First.{Until, until_is}
@@ -21,13 +22,12 @@ use Rattle.pack.specs.declared.counts.Counts.{Counts}
 use Rattle.pack.specs.declared.rows.DefinitionRow.{DefinitionRow}
 use Rattle.structure.specs.Structure.{rows, PartsSmaller, holds}
 use Rattle.structure.specs.Table.{Numbers}
-use Rattle.members.specs.Places.{perhaps}
 use Rattle.members.specs.Types.{named_by}
 use Rattle.members.specs.Lookup.{name_at, is_member, member_of}
 use Rattle.members.specs.Marks.{is_marked}
-use Rattle.members.specs.Field.{field_in, field_of_definition, field_of_type, accessed_by}
-use Rattle.members.specs.declared.answer.Accessed.{Accessed}
-use Rattle.members.specs.declared.answer.Accessed.TheVariants as found
+use Rattle.members.specs.Field.{Accessed, field_in, field_of_definition, field_of_type, accessed_by}
+use Rattle.std.proofs.Common.{Ok, Err}
+use Rattle.laws.specs.declared.fault.Fault.TheVariants.{NoSuchField, HoldsVariable, NotPlain}
 use Rattle.members.proofs.Counts.{not_bit}
 
 -- ---- marks
@@ -64,15 +64,15 @@ module _ (p : List ℕ) (c : Counts) (list name : ℕ) where
 
 -- a type that is found holds no variable
 abbrev pub Unmarked : List ℕ → Accessed → Type 0
-Unmarked marks (found.Type t) = is_marked marks t ≡ false
-Unmarked marks (found.Fault n) = Unit {0}
+Unmarked marks (Ok t) = is_marked marks t ≡ false
+Unmarked marks (Err f) = Unit {0}
 
 module _ (p : List ℕ) (c : Counts) (marks : List ℕ) (name : ℕ) where
   in_unmarked : (list : ℕ) → Unmarked marks (field_in p c marks list name)
   unfolding field_in pick
   in_unmarked list = go (is_member p c list name) (is_marked marks (member_of p c list name)) refl
     where
-      go : (a b : Bool) → is_marked marks (member_of p c list name) ≡ b → Unmarked marks (pick a (pick b (found.Fault 35) (found.Type (member_of p c list name))) (found.Fault 32))
+      go : (a b : Bool) → is_marked marks (member_of p c list name) ≡ b → Unmarked marks (pick a (pick b (Err HoldsVariable) (Ok (member_of p c list name))) (Err NoSuchField))
       go true true e = tt
       go true false e = e
       go false b e = tt
@@ -94,6 +94,6 @@ module _ (p : List ℕ) (c : Counts) (marks : List ℕ) (name : ℕ) where
   unfolding accessed_by
   field_unmarked x = go (named_by p x)
     where
-      go : (n : ℕ) → Unmarked marks (perhaps (field_of_type p c marks name x) (λ d. field_of_definition p c marks name (definition_row p c d)) n)
-      go zero = type_unmarked x
-      go (suc d) = definition_unmarked (definition_row p c d)
+      go : (d : Option ℕ) → Unmarked marks (unwrap_or (option_map (λ d. field_of_definition p c marks name (definition_row p c d)) d) (field_of_type p c marks name x))
+      go None = type_unmarked x
+      go (Some d) = definition_unmarked (definition_row p c d)

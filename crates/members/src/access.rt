@@ -3,21 +3,18 @@ ghost use Rattle.std.specs.Prelude.{◌≡◌};
 ghost use Rattle.names.specs.Index.{Indexed};
 ghost use Rattle.members.specs.Field.{field_in, field_of_definition, field_of_type, accessed_by};
 
-use crate::answer::Accessed;
 use crate::marks::is_marked;
 use crate::types::{is_row, named};
+use laws::Fault;
 use names::{NameIndex, find_pair};
-use pack::{Counts, DefinitionRow, definition_row, list_item, list_len, type_row};
+use pack::{
+    Counts, DefinitionKind, DefinitionRow, TypeKind, definition_row, list_item, list_len, type_row,
+};
 use structure::TypeTable;
 use unionfind::number_of;
 
-// The kind of a type row that is a record.
-const RECORD_TYPE: u32 = 5;
-
-// The kind of a record definition.
-const RECORD: u32 = 1;
-
 // By name in a list of names and types: 32, 35.
+#[tactic(auto, unfolding(crate::specs::Field::field_in, crate::specs::Lookup::is_member, crate::specs::Lookup::member_of, laws::specs::Choice::pick))]
 fn field_in(
     pack: &[u8],
     c: Counts,
@@ -25,7 +22,7 @@ fn field_in(
     marks: &[u32; TypeTable::CAPACITY],
     list: u32,
     name: u32,
-) -> Accessed
+) -> Result<u32, Fault>
     requires { Indexed pack.now c names.now }
     ensures { result ≡ field_in pack.now c marks.now list name }
 {
@@ -34,16 +31,17 @@ fn field_in(
     if k < n {
         let field = list_item(pack, c, list, 2 * k + 1);
         if is_marked(marks, field) {
-            Accessed::Fault(35)
+            Err(Fault::HoldsVariable)
         } else {
-            Accessed::Type(field)
+            Ok(field)
         }
     } else {
-        Accessed::Fault(32)
+        Err(Fault::NoSuchField)
     }
 }
 
 // Of a named type: 36, then by name.
+#[tactic(auto, unfolding(crate::specs::Field::field_of_definition, laws::specs::Choice::pick))]
 fn field_of_definition(
     pack: &[u8],
     c: Counts,
@@ -51,22 +49,23 @@ fn field_of_definition(
     marks: &[u32; TypeTable::CAPACITY],
     name: u32,
     row: DefinitionRow,
-) -> Accessed
+) -> Result<u32, Fault>
     requires { Indexed pack.now c names.now }
     ensures { result ≡ field_of_definition pack.now c marks.now name row }
 {
     if row.parameters == 0 {
-        if row.kind == RECORD {
+        if row.kind == DefinitionKind::Record as u32 {
             field_in(pack, c, names, marks, row.list, name)
         } else {
-            Accessed::Fault(32)
+            Err(Fault::NoSuchField)
         }
     } else {
-        Accessed::Fault(36)
+        Err(Fault::NotPlain)
     }
 }
 
 // Of a type that is no named one: a record type has fields.
+#[tactic(auto, unfolding(crate::specs::Field::field_of_type, laws::specs::Choice::pick))]
 fn field_of_type(
     pack: &[u8],
     c: Counts,
@@ -74,19 +73,20 @@ fn field_of_type(
     marks: &[u32; TypeTable::CAPACITY],
     name: u32,
     x: u32,
-) -> Accessed
+) -> Result<u32, Fault>
     requires { Indexed pack.now c names.now }
     ensures { result ≡ field_of_type pack.now c marks.now name x }
 {
-    if is_row(pack, RECORD_TYPE, x) {
+    if is_row(pack, TypeKind::Record, x) {
         let row = type_row(pack, number_of(x));
         field_in(pack, c, names, marks, row.b, name)
     } else {
-        Accessed::Fault(32)
+        Err(Fault::NoSuchField)
     }
 }
 
 // The field of that name of a resolved type.
+#[tactic(auto, unfolding(crate::specs::Field::accessed_by))]
 pub fn accessed(
     pack: &[u8],
     c: Counts,
@@ -94,21 +94,15 @@ pub fn accessed(
     marks: &[u32; TypeTable::CAPACITY],
     x: u32,
     name: u32,
-) -> Accessed
+) -> Result<u32, Fault>
     requires { Indexed pack.now c names.now }
     ensures { result ≡ accessed_by pack.now c marks.now x name }
 {
-    let definition = named(pack, x);
-    if definition == 0 {
-        field_of_type(pack, c, names, marks, name, x)
-    } else {
-        field_of_definition(
-            pack,
-            c,
-            names,
-            marks,
-            name,
-            definition_row(pack, c, definition - 1),
-        )
+    match named(pack, x) {
+        None => field_of_type(pack, c, names, marks, name, x),
+        Some(definition) => {
+            let row = definition_row(pack, c, definition);
+            field_of_definition(pack, c, names, marks, name, row)
+        }
     }
 }

@@ -3,13 +3,11 @@
 #![tactic(auto)]
 
 mod access;
-mod answer;
 mod lists;
 mod marks;
 mod types;
 
 pub use access::accessed;
-pub use answer::Accessed;
 pub use lists::{is_member, member_of, name_at};
 pub use marks::{any_field_marked, any_marked, is_marked};
 pub use types::{is_list, named};

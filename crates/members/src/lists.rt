@@ -16,6 +16,7 @@ pub fn name_at(pack: &[u8], c: Counts, list: u32, k: u32) -> u32
 }
 
 // Whether a pair has that name.
+#[tactic(auto, unfolding(crate::specs::Lookup::is_member))]
 pub fn is_member(
     pack: &[u8],
     c: Counts,
@@ -31,6 +32,7 @@ pub fn is_member(
 }
 
 // The word that stands beside the name: a type, or the start of a variant's list of field types.
+#[tactic(auto, using(crate::proofs::Finding::member_high), unfolding(crate::specs::Lookup::member_of))]
 pub fn member_of(
     pack: &[u8],
     c: Counts,

@@ -6,29 +6,18 @@ use pack::{Counts, list_item, list_len};
 use structure::TypeTable;
 
 // Whether type row i holds a variable.
+#[tactic(auto, unfolding(crate::specs::Marks::is_marked, laws::specs::Bounded::get, laws::specs::Choice::pick))]
 pub fn is_marked(marks: &[u32; TypeTable::CAPACITY], i: u32) -> bool
     ensures { result ≡ is_marked marks.now i }
 {
-    if (i as usize) < TypeTable::CAPACITY {
-        marks[i as usize] != 0
-    } else {
-        false
-    }
+    marks.get(i as usize).is_some_and(|mark| *mark != 0)
 }
 
 // Whether one of a list of types does.
 pub fn any_marked(pack: &[u8], c: Counts, marks: &[u32; TypeTable::CAPACITY], list: u32) -> bool
     ensures { result ≡ any_marked pack.now c marks.now list }
 {
-    let n = list_len(pack, c, list);
-    let mut k = 0;
-    while k < n {
-        if is_marked(marks, list_item(pack, c, list, k)) {
-            return true;
-        }
-        k += 1;
-    }
-    false
+    (0..list_len(pack, c, list)).any(|k| is_marked(marks, list_item(pack, c, list, k)))
 }
 
 // Whether one of the types of a list of names and types does.
@@ -40,13 +29,5 @@ pub fn any_field_marked(
 ) -> bool
     ensures { result ≡ any_field_marked pack.now c marks.now list }
 {
-    let n = list_len(pack, c, list);
-    let mut k = 0;
-    while k < n {
-        if is_marked(marks, list_item(pack, c, list, 2 * k + 1)) {
-            return true;
-        }
-        k += 1;
-    }
-    false
+    (0..list_len(pack, c, list)).any(|k| is_marked(marks, list_item(pack, c, list, 2 * k + 1)))
 }

@@ -1,6 +1,6 @@
 -- The search of places that rise, and what it finds in the index.
 --     until_only                            the first place that fails is one alone
---     Seeking, seek_begins, seek_up, seek_down, seek_ends    the steps of a search by halves
+--     Seeking, seek_ends                    a search by halves, and its end
 --     rising                                the places of one key rise
 --     word_found, word_none                 the first word of the key from a place on
 -- Assumes nothing.
@@ -33,31 +33,6 @@ pub record Seeking (table : List ℕ) (x low high from to : ℕ) : Type 0 where
   pub last : to ≤ high
   pub below : (i : ℕ) → low ≤ i → i < from → seat_at table i < x
   pub above : (i : ℕ) → to ≤ i → i < high → x ≤ seat_at table i
-
-module _ {table : List ℕ} {low high : ℕ} (r : Rising table low high) where
-  pub seek_begins : (x : ℕ) → Seeking table x low high low high
-  seek_begins x = record { first = omega arith; order = r.order; last = omega arith; below = λ i a b. absurd (omega arith); above = λ i a b. absurd (omega arith) }
-
-  module _ {x from to m v : ℕ} (s : Seeking table x low high from to) (a : from ≤ m) (b : m < to) (e : v ≡ seat_at table m) where
-    pub seek_up : v < x → Seeking table x low high (m + 1) to
-    seek_up h =
-        record {
-          first = omega (arith, s.first);
-          order = omega arith;
-          last = s.last;
-          below = λ i f g. omega (arith, e, h, r.rises i m f (omega arith) (omega (arith, s.last)));
-          above = s.above;
-        }
-
-    pub seek_down : x ≤ v → Seeking table x low high from m
-    seek_down h =
-        record {
-          first = s.first;
-          order = a;
-          last = omega (arith, s.last);
-          below = s.below;
-          above = λ i f g. omega (arith, e, h, r.rises m i (omega (arith, s.first)) f g);
-        }
 
 pub seek_ends : {table : List ℕ} {x low high from to : ℕ} → Seeking table x low high from to → to ≤ from → from ≡ until (λ m. ltb (seat_at table m) x) low high
 seek_ends {table = table} {x = x} {low = low} {high = high} {from = from} s h =

@@ -56,7 +56,7 @@ fn item_from(
 {
     let first = seat_of(c.words, s + 1);
     let k = seat_from(pack, c, names, name, first + i) - first;
-    if k < n { k } else { n }
+    k.min(n)
 }
 
 // The same of any list, item by item.
@@ -64,12 +64,10 @@ fn item_walked(pack: &[u8], c: Counts, s: u32, i: u32, n: u32, name: u32) -> u32
     requires { (i ≤ n) × (n < 131072) }
     ensures { result ≡ next_item pack.now c s i n name }
 {
-    let mut k = i;
-    while k < n {
+    for k in i..n {
         if list_item(pack, c, s, 2 * k) == name {
             return k;
         }
-        k += 1;
     }
     n
 }
@@ -89,12 +87,11 @@ pub fn next_item(
     ensures { result ≡ next_item pack.now c s i n name }
 {
     let end = (s as usize) + 1 + 2 * (n as usize);
-    if name < NameIndex::NO_NAME {
-        if end <= (c.words as usize) {
-            return item_from(pack, c, names, s, i, n, name);
-        }
+    if name < NameIndex::NO_NAME && end <= (c.words as usize) {
+        item_from(pack, c, names, s, i, n, name)
+    } else {
+        item_walked(pack, c, s, i, n, name)
     }
-    item_walked(pack, c, s, i, n, name)
 }
 
 // The first pair of the list at word s whose first word is that one, the number of its pairs where there is none.

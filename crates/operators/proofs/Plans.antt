@@ -1,28 +1,17 @@
 -- An operator's plan is one of nine, whatever the operator and its left side: what holds of those holds of it (plan_all).
 -- Assumes nothing.
-use Prim.Native.Nat.{ℕ, zero, suc}
+use Prim.Native.Nat.{ℕ}
 use mathlib.Core.Bool.{Bool}
-use mathlib.Core.List.{List, [], ◌∷◌}
 use lib.Dec.{eqb}
 use Rattle.laws.proofs.Choice.{pick_all}
-use Rattle.laws.specs.Choice.{by_kind}
 use Rattle.unify.specs.Classes.{is_int, is_numeric}
-use Rattle.operators.specs.Operators.{string_code, ip_addr_code, bool_code, prefix_code, u8_code, u32_code, no_call, prefix_new, string_append, list_concat, accepted, refused, logical, compared, number, added, divided, remainder, power, operator_plan}
-use Rattle.operators.specs.declared.plan.OperatorPlan.{OperatorPlan}
+use Rattle.operators.specs.Operators.{Plan, string_code, ip_addr_code, bool_code, prefix_code, u8_code, u32_code, no_call, prefix_new, string_append, list_concat, accepted, refused, logical, compared, number, added, divided, remainder, power, plan_of, operator_plan}
+use Rattle.operators.specs.Names.{op_of}
+use Rattle.operators.specs.declared.names.Op.{Op}
+use Rattle.operators.specs.declared.names.Op.TheVariants as op
+use Rattle.laws.specs.declared.fault.Fault.TheVariants.{NotNumeric, NotInteger}
 
--- what holds of both sides of a choice
--- what holds of each rule's answer, and of the answer past the rules
-Each : {R A : Type 0} → (A → Type 0) → R → A → List (R → A) → Type 0
-Each Q r other [] = Q other
-Each Q r other (f ∷ rules) = Q (f r) × Each Q r other rules
-
-kind_all : {R A : Type 0} (Q : A → Type 0) (r : R) (kind : ℕ) (other : A) (rules : List (R → A)) → Each Q r other rules → Q (by_kind r kind other rules)
-unfolding by_kind Each
-kind_all Q r kind other [] e = e
-kind_all Q r zero other (f ∷ rules) e = e.0
-kind_all Q r (suc kind) other (f ∷ rules) e = kind_all Q r kind other rules e.1
-
-module _ (Q : OperatorPlan → Type 0) (own : ℕ) where
+module _ (Q : Plan → Type 0) (own : ℕ) where
   pub record Nine : Type 0 where
     pub truths : Q logical
     pub test : Q (accepted own bool_code no_call)
@@ -31,8 +20,8 @@ module _ (Q : OperatorPlan → Type 0) (own : ℕ) where
     pub concat : Q (accepted own own list_concat)
     pub prefix : Q (accepted u8_code prefix_code prefix_new)
     pub raise : Q (accepted u32_code own no_call)
-    pub no_number : Q (refused 21)
-    pub no_integer : Q (refused 22)
+    pub no_number : Q (refused NotNumeric)
+    pub no_integer : Q (refused NotInteger)
 
   module _ (n : Nine) (left : ℕ) where
     compared_all : Q (compared left own)
@@ -59,8 +48,22 @@ module _ (Q : OperatorPlan → Type 0) (own : ℕ) where
     unfolding power
     power_all = pick_all Q (is_int left) n.raise number_all
 
+    named_all : (op : Op) (list : Bool) → Q (plan_of op own left list)
+    named_all op.And list = n.truths
+    named_all op.Or list = n.truths
+    named_all op.Lt list = compared_all
+    named_all op.Le list = compared_all
+    named_all op.Gt list = compared_all
+    named_all op.Ge list = compared_all
+    named_all op.Eq list = n.test
+    named_all op.Ne list = n.test
+    named_all op.Add list = added_all list
+    named_all op.Sub list = number_all
+    named_all op.Mul list = number_all
+    named_all op.Div list = divided_all
+    named_all op.Mod list = remainder_all
+    named_all op.Exp list = power_all
+
     pub plan_all : (op : ℕ) (list : Bool) → Q (operator_plan op own left list)
-    unfolding operator_plan Each
-    plan_all op list =
-        kind_all Q own op (power left own) _
-        (n.truths, (n.truths, (compared_all, (compared_all, (compared_all, (compared_all, (n.test, (n.test, (added_all list, (number_all, (number_all, (divided_all, (remainder_all, (power_all, (power_all)))))))))))))))
+    unfolding operator_plan
+    plan_all op list = named_all (op_of op) list

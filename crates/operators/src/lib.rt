@@ -6,6 +6,6 @@ mod names;
 mod plan;
 mod rules;
 
-pub use names::{Call, Op, Primitive, primitive_code};
+pub use names::{Call, Op, Primitive, call_number, primitive_code};
 pub use plan::OperatorPlan;
 pub use rules::operator_plan;

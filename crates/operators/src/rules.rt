@@ -1,98 +1,111 @@
 // The rule of each operator: `own` is the code that the left side was checked against, `left` what that stands for.
-// All that is asked is total, so every test is asked first and then joined.
 ghost use Rattle.std.specs.Prelude.{◌≡◌};
 ghost use Rattle.operators.specs.Operators.{logical, compared, equated, number, added, divided, remainder, power, operator_plan};
 
 use crate::names::{Call, Op, Primitive, primitive_code};
-use crate::plan::{OperatorPlan, accept, prefer, refuse};
+use crate::plan::{OperatorPlan, accept};
+use laws::Fault;
 use unify::{is_int_type, is_numeric_type};
 
 // And, Or.
-fn logical_plan() -> OperatorPlan
+fn logical_plan() -> Result<OperatorPlan, Fault>
     ensures { result ≡ logical }
 {
-    let truth = primitive_code(Primitive::BOOL);
-    accept(truth, truth, Call::NONE)
+    let truth = primitive_code(Primitive::Bool);
+    accept(truth, truth, None)
 }
 
 // Lt, Le, Gt, Ge.
-fn compared_plan(own: u32, left: u32) -> OperatorPlan
+#[tactic(auto, unfolding(crate::specs::Operators::compared, laws::specs::Choice::pick))]
+fn compared_plan(own: u32, left: u32) -> Result<OperatorPlan, Fault>
     ensures { result ≡ compared left own }
 {
-    let compares = accept(own, primitive_code(Primitive::BOOL), Call::NONE);
-    prefer(is_numeric_type(left), compares, refuse(21))
+    if !is_numeric_type(left) {
+        return Err(Fault::NotNumeric);
+    }
+    equated_plan(own)
 }
 
 // Eq, Ne.
-fn equated_plan(own: u32) -> OperatorPlan
+fn equated_plan(own: u32) -> Result<OperatorPlan, Fault>
     ensures { result ≡ equated own }
 {
-    accept(own, primitive_code(Primitive::BOOL), Call::NONE)
+    accept(own, primitive_code(Primitive::Bool), None)
 }
 
 // Sub, Mul, and what Add, Div and Exp are else.
-fn number_plan(own: u32, left: u32) -> OperatorPlan
+#[tactic(auto, unfolding(crate::specs::Operators::number, laws::specs::Choice::pick))]
+fn number_plan(own: u32, left: u32) -> Result<OperatorPlan, Fault>
     ensures { result ≡ number left own }
 {
-    prefer(
-        is_numeric_type(left),
-        accept(own, own, Call::NONE),
-        refuse(21),
-    )
+    if is_numeric_type(left) {
+        accept(own, own, None)
+    } else {
+        Err(Fault::NotNumeric)
+    }
 }
 
-fn added_plan(own: u32, left: u32, list: bool) -> OperatorPlan
+#[tactic(auto, unfolding(crate::specs::Operators::added, laws::specs::Choice::pick))]
+fn added_plan(own: u32, left: u32, list: bool) -> Result<OperatorPlan, Fault>
     ensures { result ≡ added left list own }
 {
-    let appends = accept(own, own, Call::STRING_APPEND);
-    let concats = accept(own, own, Call::LIST_CONCAT);
-    let other = prefer(list, concats, number_plan(own, left));
-    prefer(left == primitive_code(Primitive::STRING), appends, other)
+    if left == primitive_code(Primitive::String) {
+        accept(own, own, Some(Call::StringAppend))
+    } else if list {
+        accept(own, own, Some(Call::ListConcat))
+    } else {
+        number_plan(own, left)
+    }
 }
 
-fn divided_plan(own: u32, left: u32) -> OperatorPlan
+#[tactic(auto, unfolding(crate::specs::Operators::divided, laws::specs::Choice::pick))]
+fn divided_plan(own: u32, left: u32) -> Result<OperatorPlan, Fault>
     ensures { result ≡ divided left own }
 {
-    let bits = primitive_code(Primitive::U8);
-    let prefix = primitive_code(Primitive::PREFIX);
-    let makes = accept(bits, prefix, Call::PREFIX_NEW);
-    let address = left == primitive_code(Primitive::IP_ADDR);
-    prefer(address, makes, number_plan(own, left))
+    if left == primitive_code(Primitive::IpAddr) {
+        let bits = primitive_code(Primitive::U8);
+        let prefix = primitive_code(Primitive::Prefix);
+        accept(bits, prefix, Some(Call::PrefixNew))
+    } else {
+        number_plan(own, left)
+    }
 }
 
-fn remainder_plan(own: u32, left: u32) -> OperatorPlan
+#[tactic(auto, unfolding(crate::specs::Operators::remainder, laws::specs::Choice::pick))]
+fn remainder_plan(own: u32, left: u32) -> Result<OperatorPlan, Fault>
     ensures { result ≡ remainder left own }
 {
-    prefer(is_int_type(left), accept(own, own, Call::NONE), refuse(22))
+    if is_int_type(left) {
+        accept(own, own, None)
+    } else {
+        Err(Fault::NotInteger)
+    }
 }
 
-fn power_plan(own: u32, left: u32) -> OperatorPlan
+#[tactic(auto, unfolding(crate::specs::Operators::power, laws::specs::Choice::pick))]
+fn power_plan(own: u32, left: u32) -> Result<OperatorPlan, Fault>
     ensures { result ≡ power left own }
 {
-    let power = primitive_code(Primitive::U32);
-    let raises = accept(power, own, Call::NONE);
-    prefer(is_int_type(left), raises, number_plan(own, left))
+    if is_int_type(left) {
+        accept(primitive_code(Primitive::U32), own, None)
+    } else {
+        number_plan(own, left)
+    }
 }
 
 // And Or Lt Le Gt Ge Eq Ne Add Sub Mul Div Mod Exp are op 0 to 13; any further op is taken for Exp.
-pub fn operator_plan(op: u32, own: u32, left: u32, list: bool) -> OperatorPlan
+#[tactic(auto, unfolding(crate::specs::Operators::operator_plan))]
+pub fn operator_plan(op: u32, own: u32, left: u32, list: bool) -> Result<OperatorPlan, Fault>
     ensures { result ≡ operator_plan op own left list }
 {
-    match op {
-        Op::AND => logical_plan(),
-        Op::OR => logical_plan(),
-        Op::LT => compared_plan(own, left),
-        Op::LE => compared_plan(own, left),
-        Op::GT => compared_plan(own, left),
-        Op::GE => compared_plan(own, left),
-        Op::EQ => equated_plan(own),
-        Op::NE => equated_plan(own),
-        Op::ADD => added_plan(own, left, list),
-        Op::SUB => number_plan(own, left),
-        Op::MUL => number_plan(own, left),
-        Op::DIV => divided_plan(own, left),
-        Op::MOD => remainder_plan(own, left),
-        Op::EXP => power_plan(own, left),
-        _ => power_plan(own, left),
+    match Op::of(op) {
+        Op::And | Op::Or => logical_plan(),
+        Op::Lt | Op::Le | Op::Gt | Op::Ge => compared_plan(own, left),
+        Op::Eq | Op::Ne => equated_plan(own),
+        Op::Add => added_plan(own, left, list),
+        Op::Sub | Op::Mul => number_plan(own, left),
+        Op::Div => divided_plan(own, left),
+        Op::Mod => remainder_plan(own, left),
+        Op::Exp => power_plan(own, left),
     }
 }

@@ -2,3 +2,4 @@ pub mod Past
 pub mod HeaderLaws
 pub mod CountLaws
 pub mod WordLaws
+pub mod NeedLaws

@@ -1,11 +1,10 @@
 -- "Header, 16 bytes: the three ASCII letters RPK, edition 1 (8 bits), then six 16-bit counts"; refusals 1 to 4.
-use Rattle.std.specs.Prelude.{ℕ, List, [], ◌∷◌, length, leb, eqb}
+use Rattle.std.specs.Prelude.{ℕ, List, [], ◌∷◌, length, leb, eqb, Ok}
+use Rattle.laws.specs.declared.fault.Fault.TheVariants.{TooShort, WrongStart, OverLimit, WrongLength}
 use Rattle.pack.specs.Read.{byte_at, word_at, starts_with}
 use Rattle.pack.specs.Counts.{in_limits, size_of}
-use Rattle.pack.specs.Answer.{needs}
+use Rattle.pack.specs.Answer.{Reading, needs}
 use Rattle.pack.specs.declared.counts.Counts.{Counts}
-use Rattle.pack.specs.declared.answer.Reading.{Reading}
-use Rattle.pack.specs.declared.answer.Reading.TheVariants.{Pack}
 
 -- R P K
 abbrev pub rpk : List ℕ
@@ -25,9 +24,9 @@ counts_of p =
 -- "1 / 2: under 16 bytes / letters or edition wrong; 3 / 4: a count over its limit / length not exact"
 unfoldable pub header_of : List ℕ → Reading
 header_of p =
-    needs (leb 16 (length p)) 1
-    (needs (starts_with p rpk) 2
-    (needs (eqb (byte_at p 3) 1) 2
-    (needs (in_limits (counts_of p)) 3
-    (needs (eqb (length p) (size_of (counts_of p))) 4
-    (Pack (counts_of p))))))
+    needs (leb 16 (length p)) TooShort
+    (needs (starts_with p rpk) WrongStart
+    (needs (eqb (byte_at p 3) 1) WrongStart
+    (needs (in_limits (counts_of p)) OverLimit
+    (needs (eqb (length p) (size_of (counts_of p))) WrongLength
+    (Ok (counts_of p))))))

@@ -5,3 +5,4 @@ pub mod Header
 pub mod Rows
 pub mod Lists
 pub mod Named
+pub mod Kinds

@@ -3,17 +3,15 @@ ghost use Rattle.std.specs.Prelude.{◌≡◌, ◌+◌, ◌<◌, length};
 ghost use Rattle.pack.specs.Read.{byte_at, word_at, row32, row64, starts_with};
 ghost use Rattle.laws.specs.Bounded.{Reads};
 
-pub fn wide(b: u8) -> u32
-    ensures { Reads result b 256 }
-{
-    b as u32
-}
-
 // The byte at i.
 pub fn byte_at(pack: &[u8], i: usize) -> u32
     ensures { Reads result (byte_at pack.now i) 256 }
 {
-    if i < pack.len() { wide(pack[i]) } else { 0 }
+    if i < pack.len() {
+        u32::from(pack[i])
+    } else {
+        0
+    }
 }
 
 // A word, a row of 32 bits and one of 64 that lie in the pack: read with no test of its end, so that their bytes are loaded together.
@@ -21,8 +19,8 @@ fn word_inside(pack: &[u8], i: usize) -> u32
     requires { i + 1 < length pack.now }
     ensures { Reads result (word_at pack.now i) 65536 }
 {
-    let first = wide(pack[i]);
-    let second = wide(pack[i + 1]);
+    let first = u32::from(pack[i]);
+    let second = u32::from(pack[i + 1]);
     first * 256 + second
 }
 
@@ -93,12 +91,10 @@ pub fn row_64(pack: &[u8], i: usize) -> u64
 pub fn starts_with(pack: &[u8], with: &[u8]) -> bool
     ensures { result ≡ starts_with pack.now with.now }
 {
-    let mut i = 0;
-    while i < with.len() {
+    for i in 0..with.len() {
         if byte_at(pack, i) != byte_at(with, i) {
             return false;
         }
-        i += 1;
     }
     true
 }

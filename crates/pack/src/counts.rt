@@ -3,8 +3,6 @@ ghost use Rattle.std.specs.Prelude.{◌≡◌};
 ghost use Rattle.laws.specs.Bounded.{Reads};
 ghost use Rattle.pack.specs.Counts.{none, in_limits, definitions_at, expressions_at, roots_at, values_at, lists_at, size_of};
 
-use laws::both;
-
 #[derive(Clone, Copy)]
 pub struct Counts {
     pub types: u32,
@@ -43,22 +41,16 @@ impl Counts {
     }
 
     // Whether each count is within its limit.
+    #[tactic(auto, unfolding(crate::specs::Counts::in_limits))]
     pub fn in_limits(self) -> bool
         ensures { result ≡ in_limits self }
     {
-        let rows = both(
-            self.types <= Counts::MAX_TYPES,
-            self.definitions <= Counts::MAX_DEFINITIONS,
-        );
-        let trees = both(
-            self.expressions <= Counts::MAX_EXPRESSIONS,
-            self.roots <= Counts::MAX_ROOTS,
-        );
-        let lists = both(
-            self.values <= Counts::MAX_VALUES,
-            self.words <= Counts::MAX_WORDS,
-        );
-        both(both(rows, trees), lists)
+        self.types <= Counts::MAX_TYPES
+            && self.definitions <= Counts::MAX_DEFINITIONS
+            && self.expressions <= Counts::MAX_EXPRESSIONS
+            && self.roots <= Counts::MAX_ROOTS
+            && self.values <= Counts::MAX_VALUES
+            && self.words <= Counts::MAX_WORDS
     }
 }
 

@@ -3,9 +3,9 @@ ghost use Rattle.std.specs.Prelude.{◌≡◌};
 ghost use Rattle.pack.specs.Read.{starts_with};
 ghost use Rattle.pack.specs.Header.{rpk, counts_of, header_of};
 
-use crate::answer::{Reading, need};
 use crate::bytes::{byte_at, starts_with, word_at};
 use crate::counts::{Counts, size_of};
+use laws::{Fault, Refusal, need};
 
 const EDITION: u32 = 1;
 
@@ -29,20 +29,15 @@ fn counts_of(pack: &[u8]) -> Counts
     }
 }
 
-// All that is asked is total, so every test is asked first, and the first that fails is the answer.
-pub fn header(pack: &[u8]) -> Reading
+// Reading past the end gives 0, so the counts are read first; the first test that fails is the answer.
+pub fn header(pack: &[u8]) -> Result<Counts, Refusal>
     ensures { result ≡ header_of pack.now }
 {
     let c = counts_of(pack);
-    let long = 16 <= pack.len();
-    let named = letters(pack);
-    let edition = byte_at(pack, 3) == EDITION;
-    let limited = c.in_limits();
-    let exact = pack.len() == size_of(c);
-    let last = need(exact, 4, Reading::Pack(c));
-    need(
-        long,
-        1,
-        need(named, 2, need(edition, 2, need(limited, 3, last))),
-    )
+    need(16 <= pack.len(), Fault::TooShort)?;
+    need(letters(pack), Fault::WrongStart)?;
+    need(byte_at(pack, 3) == EDITION, Fault::WrongStart)?;
+    need(c.in_limits(), Fault::OverLimit)?;
+    need(pack.len() == size_of(c), Fault::WrongLength)?;
+    Ok(c)
 }

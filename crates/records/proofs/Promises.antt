@@ -11,7 +11,7 @@ use native.Mathlib.Omega.{arith}
 use lib.Dec.{eqb, ltb}
 use borrow.Author.Tests.{not-false, eqb-true, ltb-false, le-ltb}
 use Rattle.laws.specs.Choice.{pick}
-use Rattle.laws.proofs.Choice.{and_both}
+use Rattle.laws.proofs.Choice.{and_both, fails}
 use Rattle.laws.proofs.Members.{by_le}
 use Rattle.pack.specs.Lists.{list_len, pair_of}
 use Rattle.pack.specs.Rows.{definition_row}
@@ -20,6 +20,9 @@ use Rattle.members.specs.Lookup.{name_at, is_member}
 use Rattle.members.specs.Marks.{any_field_marked}
 use Rattle.members.proofs.Counts.{tally_zero, zero_tally}
 use Rattle.members.proofs.Promises.{member_below, member_named, member_first}
+use Rattle.std.proofs.Common.{Option, Some, None, ap}
+use Rattle.laws.specs.declared.fault.Fault.TheVariants.{WrongFields, HoldsVariable, NotPlain}
+use Rattle.records.specs.declared.answer.RecordFault.{RecordFault}
 use Rattle.records.specs.Record.{fault, strangers, invalid_fields, named_before, duplicate_fields, missing_fields, none_wrong, wrong_fields, counted_fault, fields_fault, is_plain_record, record_fault}
 
 module _ (p : List ℕ) (c : Counts) (list fields : ℕ) where
@@ -78,7 +81,14 @@ none_wrong_lem i d m t =
     let g = and_both (eqb i 0) (eqb d 0) h.0 in
     (eqb-true i 0 g.0, eqb-true d 0 g.1, eqb-true m 0 h.1)
 
-pub record_right : (p : List ℕ) (c : Counts) (marks : List ℕ) (d fields : ℕ) → (record_fault p c marks d fields).number ≡ 0 → Right p c marks d fields
+fault_none : {f : RecordFault} → Some f ≡ None → ⊥
+fault_none e = fails (ap is_some e)
+  where
+    is_some : Option RecordFault → Bool
+    is_some (Some f) = true
+    is_some None = false
+
+pub record_right : (p : List ℕ) (c : Counts) (marks : List ℕ) (d fields : ℕ) → record_fault p c marks d fields ≡ None → Right p c marks d fields
 unfolding record_fault fields_fault counted_fault pick
 record_right p c marks d fields e = go (is_plain_record (definition_row p c d)) refl (none_wrong i u m) refl (any_field_marked p c marks list) refl e
   where
@@ -95,8 +105,8 @@ record_right p c marks d fields e = go (is_plain_record (definition_row p c d)) 
     m = missing_fields p c list fields
 
     go : (a : Bool) → is_plain_record (definition_row p c d) ≡ a → (b : Bool) → none_wrong i u m ≡ b → (k : Bool) → any_field_marked p c marks list ≡ k
-        → (pick a (pick b (fault (pick k 35 0) 0) (fault 31 (wrong_fields i u m))) (fault 36 0)).number ≡ 0 → Right p c marks d fields
+        → pick a (pick b (pick k (fault HoldsVariable 0) None) (fault WrongFields (wrong_fields i u m))) (fault NotPlain 0) ≡ None → Right p c marks d fields
     go true x true y false z q = let h = none_wrong_lem i u m y in record { plain = x; valid = h.0; single = h.1; whole = h.2; unmarked = z }
-    go true x true y true z q = absurd (omega arith)
-    go true x false y k z q = absurd (omega arith)
-    go false x b y k z q = absurd (omega arith)
+    go true x true y true z q = absurd (fault_none q)
+    go true x false y k z q = absurd (fault_none q)
+    go false x b y k z q = absurd (fault_none q)

@@ -1,8 +1,9 @@
-// What is said of a record expression.
+// What is wrong with a record expression.
+use laws::Fault;
 
-// The number of a refusal, 0 for none, and its detail.
-#[derive(Clone, Copy)]
-pub struct Fault {
-    pub number: u32,
+// The fault, with what a refusal says in detail.
+#[derive(Clone, Copy, Debug, PartialEq, Eq)]
+pub struct RecordFault {
+    pub fault: Fault,
     pub detail: u64,
 }

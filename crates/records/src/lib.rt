@@ -4,5 +4,5 @@
 mod answer;
 mod records;
 
-pub use answer::Fault;
+pub use answer::RecordFault;
 pub use records::{duplicate_fields, invalid_fields, missing_fields, record_fault};

@@ -1,17 +1,14 @@
 // A record expression: the fields that it names against those of its definition.
 ghost use Rattle.std.specs.Prelude.{◌≡◌, ◌<◌};
 ghost use Rattle.names.specs.Index.{Indexed};
-ghost use Rattle.records.specs.Record.{strangers as strangers_in, is_plain_record, invalid_fields, named_before, duplicate_fields, missing_fields, counted_fault, fields_fault, record_fault};
+ghost use Rattle.records.specs.Record.{strangers as strangers_in, is_plain_record, invalid_fields, named_before, duplicate_fields, missing_fields, counted_fault, marked_fault, fields_fault, record_fault};
 
-use crate::answer::Fault;
-use laws::{both, flag, unless};
+use crate::answer::RecordFault;
+use laws::Fault;
 use members::{any_field_marked, is_member, name_at};
 use names::{NameIndex, find_pair};
-use pack::{Counts, DefinitionRow, definition_row, list_len};
+use pack::{Counts, DefinitionKind, DefinitionRow, definition_row, list_len};
 use structure::TypeTable;
-
-// The kind of a record definition.
-const RECORD: u32 = 1;
 
 // How many names of the given pairs are none of the list's.
 fn strangers(
@@ -24,18 +21,13 @@ fn strangers(
     requires { Indexed pack.now c names.now }
     ensures { result ≡ strangers_in pack.now c list given }
 {
-    let n = list_len(pack, c, given);
-    let mut strange = 0;
-    let mut j = 0;
-    while j < n {
-        let known = is_member(pack, c, names, list, name_at(pack, c, given, j));
-        strange += flag(!known);
-        j += 1;
-    }
-    strange
+    (0..list_len(pack, c, given))
+        .filter(|j| !is_member(pack, c, names, list, name_at(pack, c, given, *j)))
+        .count() as u32
 }
 
 // How many of the fields as written name no member.
+#[tactic(auto, unfolding(crate::specs::Record::invalid_fields))]
 pub fn invalid_fields(
     pack: &[u8],
     c: Counts,
@@ -49,7 +41,8 @@ pub fn invalid_fields(
     strangers(pack, c, names, list, fields)
 }
 
-// How many members are never named.
+// How many members are never named: the same count, of the other list.
+#[tactic(auto, unfolding(crate::specs::Record::missing_fields))]
 pub fn missing_fields(
     pack: &[u8],
     c: Counts,
@@ -64,6 +57,7 @@ pub fn missing_fields(
 }
 
 // Whether field j as written names what one before it named.
+#[tactic(auto, unfolding(crate::specs::Record::named_before))]
 fn named_before(
     pack: &[u8],
     c: Counts,
@@ -89,33 +83,56 @@ pub fn duplicate_fields(
     requires { Indexed pack.now c names.now }
     ensures { result ≡ duplicate_fields pack.now c list fields }
 {
-    let n = list_len(pack, c, fields);
-    let mut duplicate = 0;
-    let mut j = 0;
-    while j < n {
-        let known = is_member(pack, c, names, list, name_at(pack, c, fields, j));
-        let before = named_before(pack, c, names, fields, j);
-        duplicate += flag(both(known, before));
-        j += 1;
-    }
-    duplicate
+    (0..list_len(pack, c, fields))
+        .filter(|j| {
+            is_member(pack, c, names, list, name_at(pack, c, fields, *j))
+                && named_before(pack, c, names, fields, *j)
+        })
+        .count() as u32
 }
 
 // 31 with its detail, or what follows.
-fn counted_fault(invalid: u32, duplicate: u32, missing: u32, rest: Fault) -> Fault
+#[tactic(auto, unfolding(crate::specs::Record::counted_fault, laws::specs::Choice::pick))]
+fn counted_fault(
+    invalid: u32,
+    duplicate: u32,
+    missing: u32,
+    rest: Option<RecordFault>,
+) -> Option<RecordFault>
     ensures { result ≡ counted_fault invalid duplicate missing rest }
 {
-    if both(both(invalid == 0, duplicate == 0), missing == 0) {
+    if invalid == 0 && duplicate == 0 && missing == 0 {
         rest
     } else {
-        Fault {
-            number: 31,
+        Some(RecordFault {
+            fault: Fault::WrongFields,
             detail: (invalid as u64) * 268435456 + (duplicate as u64) * 16384 + (missing as u64),
-        }
+        })
+    }
+}
+
+// 35: a field's type is not fully known.
+#[tactic(auto, unfolding(laws::specs::Choice::pick))]
+fn marked_fault(
+    pack: &[u8],
+    c: Counts,
+    marks: &[u32; TypeTable::CAPACITY],
+    list: u32,
+) -> Option<RecordFault>
+    ensures { result ≡ marked_fault pack.now c marks.now list }
+{
+    if any_field_marked(pack, c, marks, list) {
+        Some(RecordFault {
+            fault: Fault::HoldsVariable,
+            detail: 0,
+        })
+    } else {
+        None
     }
 }
 
 // 31, then 35.
+#[tactic(auto, unfolding(crate::specs::Record::fields_fault))]
 fn fields_fault(
     pack: &[u8],
     c: Counts,
@@ -123,32 +140,26 @@ fn fields_fault(
     marks: &[u32; TypeTable::CAPACITY],
     list: u32,
     fields: u32,
-) -> Fault
+) -> Option<RecordFault>
     requires { Indexed pack.now c names.now }
     ensures { result ≡ fields_fault pack.now c marks.now list fields }
 {
     let invalid = invalid_fields(pack, c, names, list, fields);
     let duplicate = duplicate_fields(pack, c, names, list, fields);
     let missing = missing_fields(pack, c, names, list, fields);
-    let held = unless(any_field_marked(pack, c, marks, list), 0, 35);
-    counted_fault(
-        invalid,
-        duplicate,
-        missing,
-        Fault {
-            number: held,
-            detail: 0,
-        },
-    )
+    let held = marked_fault(pack, c, marks, list);
+    counted_fault(invalid, duplicate, missing, held)
 }
 
+#[tactic(auto, unfolding(crate::specs::Record::is_plain_record))]
 fn is_plain_record(row: DefinitionRow) -> bool
     ensures { result ≡ is_plain_record row }
 {
-    both(row.kind == RECORD, row.parameters == 0)
+    row.kind == DefinitionKind::Record as u32 && row.parameters == 0
 }
 
-// The first fault of a record of definition d, with these fields as written: 36, 31, 35.
+// The first fault of a record of definition d, with these fields as written, if it has one: 36, 31, 35.
+#[tactic(auto, unfolding(crate::specs::Record::record_fault, laws::specs::Choice::pick))]
 pub fn record_fault(
     pack: &[u8],
     c: Counts,
@@ -156,7 +167,7 @@ pub fn record_fault(
     marks: &[u32; TypeTable::CAPACITY],
     d: u32,
     fields: u32,
-) -> Fault
+) -> Option<RecordFault>
     requires { Indexed pack.now c names.now }
     ensures { result ≡ record_fault pack.now c marks.now d fields }
 {
@@ -164,9 +175,9 @@ pub fn record_fault(
     if is_plain_record(row) {
         fields_fault(pack, c, names, marks, row.list, fields)
     } else {
-        Fault {
-            number: 36,
+        Some(RecordFault {
+            fault: Fault::NotPlain,
             detail: 0,
-        }
+        })
     }
 }

@@ -1,78 +1,68 @@
-// The cases one after the other: where the parts of a case stand.
-ghost use Rattle.std.specs.Prelude.{◌<◌};
+// The parts of a case.
+ghost use Rattle.std.specs.Prelude.{◌<◌, length, IfSome};
+
+// What was asked.
+#[derive(Clone, Copy)]
+pub enum Asks {
+    Types,
+    Root(u64),
+    Order,
+}
+
+#[derive(Clone, Copy, PartialEq)]
+pub struct Answer {
+    pub number: u32,
+    pub place: u32,
+    pub detail: u64,
+}
 
 #[derive(Clone, Copy)]
-pub struct Case {
-    pub entry: u64,
-    pub root: u64,
-    pub number: u64,
-    pub place: u64,
-    pub detail: u64,
-    pub room: u64,
-    pub length: u64,
+pub struct Case<'a> {
+    pub asks: Asks,
+    pub answer: Answer,
+    // The bytes of the result area.
+    pub room: usize,
+    pub pack: &'a [u8],
+    // Four bytes for each place of the area that is written.
+    pub writes: &'a [u8],
 }
 
-fn wide(b: u8) -> u64
-    ensures { result < 256 }
+// The first two bytes as a number, and the bytes after them.
+fn word(bytes: &[u8]) -> Option<(u16, &[u8])>
+    ensures { IfSome result (λ r. length r.1.now < length bytes.now) }
 {
-    b as u64
+    let (first, rest) = bytes.split_first_chunk::<2>()?;
+    Some((u16::from_be_bytes(*first), rest))
 }
 
-// The byte at i, 0 past the end.
-pub(crate) fn byte_at(bytes: &[u8], i: usize) -> u64
-    ensures { result < 256 }
+// The first case of these bytes, and the bytes after it; none where it is cut.
+pub(crate) fn first_case(bytes: &[u8]) -> Option<(Case<'_>, &[u8])>
+    ensures { IfSome result (λ r. length r.1.now < length bytes.now) }
 {
-    if i < bytes.len() { wide(bytes[i]) } else { 0 }
-}
-
-// The word of 16 bits at i.
-pub(crate) fn word_at(bytes: &[u8], i: usize) -> u64
-    ensures { result < 65536 }
-{
-    if i < bytes.len() {
-        byte_at(bytes, i) * 256 + byte_at(bytes, i + 1)
-    } else {
-        0
-    }
-}
-
-// The number of 48 bits at i.
-fn long_at(bytes: &[u8], i: usize) -> u64 {
-    if i < bytes.len() {
-        let high = word_at(bytes, i) * 4294967296;
-        if i + 2 < bytes.len() {
-            return high + word_at(bytes, i + 2) * 65536 + word_at(bytes, i + 4);
-        }
-        return high;
-    }
-    0
-}
-
-// The bytes of a case before its pack.
-pub const HEAD: usize = 15;
-
-// The head of a case.
-pub(crate) fn case_of(head: &[u8; HEAD]) -> Case {
-    Case {
-        entry: byte_at(head, 0),
-        root: byte_at(head, 1),
-        number: byte_at(head, 2),
-        place: word_at(head, 3),
-        detail: long_at(head, 5),
-        room: word_at(head, 11),
-        length: word_at(head, 13),
-    }
-}
-
-// The first bytes of a case.
-pub(crate) fn head_of(bytes: &[u8]) -> [u8; HEAD] {
-    let mut head = [0u8; HEAD];
-    let mut k = 0;
-    while k < HEAD {
-        if k < bytes.len() {
-            head[k] = bytes[k];
-        }
-        k += 1;
-    }
-    head
+    let (head, rest) = bytes.split_first_chunk::<3>()?;
+    let [entry, root, number] = *head;
+    let (place, rest) = word(rest)?;
+    let (detail, rest) = rest.split_first_chunk::<6>()?;
+    let [a, b, c, d, e, f] = *detail;
+    let (room, rest) = word(rest)?;
+    let (size, rest) = word(rest)?;
+    let (pack, rest) = rest.split_at_checked(size as usize)?;
+    let (places, rest) = word(rest)?;
+    let (writes, rest) = rest.split_at_checked(4 * (places as usize))?;
+    let case = Case {
+        asks: match entry {
+            0 => Asks::Types,
+            1 => Asks::Root(root as u64),
+            _ => Asks::Order,
+        },
+        answer: Answer {
+            number: number as u32,
+            place: place as u32,
+            detail: u64::from_be_bytes([0, 0, a, b, c, d, e, f]),
+        },
+        room: room as usize,
+        pack,
+        writes,
+    };
+    Some((case, rest))
 }

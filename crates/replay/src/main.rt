@@ -13,10 +13,8 @@
 mod asks;
 mod cases;
 mod digits;
-mod lines;
 mod run;
 
-use crate::lines::too_long;
 use crate::run::run_all;
 use std::io;
 use std::io::Read;
@@ -31,7 +29,7 @@ fn run_input(rt: &impl Print, input: &mut impl Read, text: &mut [u8; MAX_TEXT]) 
     if n < MAX_TEXT {
         run_all(rt, &text[..n])
     } else {
-        too_long(rt)
+        println!(rt; "the text is too long")
     }
 }
 

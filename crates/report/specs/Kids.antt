@@ -5,17 +5,10 @@ use Rattle.pack.specs.Lists.{list_len, list_item}
 use Rattle.pack.specs.Named.{optional}
 use Rattle.pack.specs.declared.counts.Counts.{Counts}
 use Rattle.pack.specs.declared.rows.ExpressionRow.{ExpressionRow}
-use Rattle.report.specs.declared.kids.Kid.{Kid}
-use Rattle.report.specs.declared.kids.Kid.TheVariants.{Absent, Is}
 
 -- more places than a row has: a list has fewer than 65,536 items, and an arm two children
 abbrev pub most : ℕ
 most = 131072
-
--- the child that was found, if one was
-abbrev pub kid_in : Kid → List ℕ
-kid_in Absent = []
-kid_in (Is x) = x ∷ []
 
 -- "2 block: statement list a, b = last+1 or 0"
 unfoldable pub block_kid : List ℕ → Counts → ℕ → ℕ → ℕ → List ℕ

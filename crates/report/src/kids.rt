@@ -1,8 +1,8 @@
 // The children of an expression, one after the other in checking order.
-ghost use Rattle.std.specs.Prelude.{◌≡◌, ◌<◌};
+ghost use Rattle.std.specs.Prelude.{◌≡◌, ◌<◌, option_to_list};
 ghost use Rattle.laws.specs.Bounded.{Reads};
 ghost use Rattle.pack.specs.Named.{optional};
-ghost use Rattle.report.specs.Kids.{most, kids_room, kid_at, block_kid, arm_kid, first_or, kid_in};
+ghost use Rattle.report.specs.Kids.{most, kids_room, kid_at, block_kid, arm_kid, first_or};
 
 use pack::{Counts, ExpressionRow, list_item, list_len};
 
@@ -32,19 +32,12 @@ impl Node {
     pub const RETURN: u32 = 8;
 }
 
-// A child, where a place has one.
-#[derive(Clone, Copy)]
-pub enum Kid {
-    Absent,
-    Is(u32),
-}
-
 // How many places for children a row has.
+#[tactic(auto, unfolding(crate::specs::Kids::kids_room, laws::specs::Choice::by_kind))]
 pub fn kids_room(pack: &[u8], c: Counts, row: ExpressionRow) -> u32
     ensures { Reads result (kids_room pack.now c row) most }
 {
-    let kind = row.kind;
-    match kind {
+    match row.kind {
         Node::LITERAL => 0,
         Node::SLOT => 0,
         Node::BLOCK => list_len(pack, c, row.a) + 1,
@@ -59,39 +52,42 @@ pub fn kids_room(pack: &[u8], c: Counts, row: ExpressionRow) -> u32
 }
 
 // What is stored as a child+1, or 0 for none.
-fn stored(x: u32) -> Kid
-    ensures { kid_in result ≡ optional x }
+fn stored(x: u32) -> Option<u32>
+    ensures { option_to_list result ≡ optional x }
 {
-    if x == 0 { Kid::Absent } else { Kid::Is(x - 1) }
+    x.checked_sub(1)
 }
 
 // Of a block: a statement, or what is stored as its last expression.
-fn block_kid(pack: &[u8], c: Counts, list: u32, last: u32, k: u32) -> Kid
-    ensures { kid_in result ≡ block_kid pack.now c list last k }
+#[tactic(auto, unfolding(crate::specs::Kids::block_kid, laws::specs::Choice::pick))]
+fn block_kid(pack: &[u8], c: Counts, list: u32, last: u32, k: u32) -> Option<u32>
+    ensures { option_to_list result ≡ block_kid pack.now c list last k }
 {
     if k < list_len(pack, c, list) {
-        Kid::Is(list_item(pack, c, list, k))
+        Some(list_item(pack, c, list, k))
     } else {
         stored(last)
     }
 }
 
 // Of a match: its examinee, then of each arm its guard, if it has one, and its body.
-fn arm_kid(pack: &[u8], c: Counts, examinee: u32, arms: u32, k: u32) -> Kid
+#[tactic(auto, unfolding(crate::specs::Kids::arm_kid, laws::specs::Choice::pick))]
+fn arm_kid(pack: &[u8], c: Counts, examinee: u32, arms: u32, k: u32) -> Option<u32>
     requires { k < most }
-    ensures { kid_in result ≡ arm_kid pack.now c examinee arms k }
+    ensures { option_to_list result ≡ arm_kid pack.now c examinee arms k }
 {
     if k == 0 {
-        return Kid::Is(examinee);
+        return Some(examinee);
     }
     let j = k - 1;
     if j % 2 == 0 {
         stored(list_item(pack, c, arms, 4 * (j / 2) + 2))
     } else {
-        Kid::Is(list_item(pack, c, arms, 4 * (j / 2) + 3))
+        Some(list_item(pack, c, arms, 4 * (j / 2) + 3))
     }
 }
 
+#[tactic(auto, unfolding(crate::specs::Kids::first_or, laws::specs::Choice::pick))]
 fn first_or(first: u32, second: u32, k: u32) -> u32
     ensures { result ≡ first_or first second k }
 {
@@ -99,21 +95,21 @@ fn first_or(first: u32, second: u32, k: u32) -> u32
 }
 
 // The child at place k.
-pub fn kid_at(pack: &[u8], c: Counts, row: ExpressionRow, k: u32) -> Kid
+#[tactic(auto, unfolding(crate::specs::Kids::kid_at, laws::specs::Choice::by_kind))]
+pub fn kid_at(pack: &[u8], c: Counts, row: ExpressionRow, k: u32) -> Option<u32>
     requires { k < most }
-    ensures { kid_in result ≡ kid_at pack.now c row k }
+    ensures { option_to_list result ≡ kid_at pack.now c row k }
 {
-    let kind = row.kind;
-    match kind {
-        Node::LITERAL => Kid::Absent,
-        Node::SLOT => Kid::Absent,
+    match row.kind {
+        Node::LITERAL => None,
+        Node::SLOT => None,
         Node::BLOCK => block_kid(pack, c, row.a, row.b, k),
-        Node::LET => Kid::Is(row.b),
+        Node::LET => Some(row.b),
         Node::MATCH => arm_kid(pack, c, row.a, row.b, k),
-        Node::OPERATOR => Kid::Is(first_or(row.a, row.b, k)),
-        Node::RECORD => Kid::Is(list_item(pack, c, row.b, 2 * k + 1)),
-        Node::FIELD => Kid::Is(row.a),
+        Node::OPERATOR => Some(first_or(row.a, row.b, k)),
+        Node::RECORD => Some(list_item(pack, c, row.b, 2 * k + 1)),
+        Node::FIELD => Some(row.a),
         Node::RETURN => stored(row.a),
-        _ => Kid::Absent,
+        _ => None,
     }
 }

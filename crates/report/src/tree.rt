@@ -4,7 +4,7 @@ ghost use Rattle.std.specs.Prelude.{◌≡◌};
 ghost use Rattle.report.specs.Visits.{tree_of};
 ghost use Rattle.report.specs.Report.{rep, write_one, write_all, kids_trees, reported, Held, Wrote};
 
-use crate::kids::{Kid, kid_at, kids_room};
+use crate::kids::{kid_at, kids_room};
 use pack::{Counts, ExpressionRow, expression_row};
 use unionfind::{UnionFind, unset_cells};
 use words::{Notes, note_at, put_note, write_node};
@@ -42,17 +42,9 @@ fn write_kids(
     requires { Held n cells.old notes.old }
     ensures { Wrote n (write_all (kids_trees depth pack.now c row) (rep cells.old notes.old area.old)) cells.new notes.new area.new }
 {
-    let room = kids_room(pack, c, row);
-    let mut k = 0;
-    while k < room {
-        match kid_at(pack, c, row, k) {
-            Kid::Absent => {
-                k += 1;
-            }
-            Kid::Is(x) => {
-                write_tree(pack, c, cells, n, notes, area, depth, x);
-                k += 1;
-            }
+    for k in 0..kids_room(pack, c, row) {
+        if let Some(x) = kid_at(pack, c, row, k) {
+            write_tree(pack, c, cells, n, notes, area, depth, x);
         }
     }
 }

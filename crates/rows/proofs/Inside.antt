@@ -14,7 +14,8 @@ use borrow.Author.Tests.{leb-true, ltb-true, eqb-true, eqb-false, not-true}
 use Rattle.laws.specs.Choice.{by_kind}
 use Rattle.laws.proofs.Choice.{tested, and_both}
 use Rattle.laws.proofs.First.{all_each}
-use Rattle.pack.specs.Answer.{passes}
+use Rattle.std.proofs.Common.{None}
+use Rattle.laws.specs.Faults.{passes}
 use Rattle.pack.specs.Lists.{list_len, list_item}
 use Rattle.pack.specs.Rows.{type_row, definition_row, expression_row, root_row, value_row}
 use Rattle.pack.specs.declared.counts.Counts.{Counts}
@@ -46,18 +47,18 @@ names_apart p c s e j k l h q =
     let g = all_each (λ j. not (eqb (name_at p c s j) (name_at p c s k))) k f j l in
     eqb-false (name_at p c s j) (name_at p c s k) (not-true (eqb (name_at p c s j) (name_at p c s k)) g) q
 
--- ---- the three tests of a row, from its rule's number
+-- ---- the three tests of a row, from its rule's fault
 
 pub record Fits (known ranged distinct : Bool) : Type 0 where
   pub known_is : known ≡ true
   pub ranged_is : ranged ≡ true
   pub distinct_is : distinct ≡ true
 
-fits : (known ranged distinct : Bool) → fault_of known ranged distinct ≡ 0 → Fits known ranged distinct
+fits : (known ranged distinct : Bool) → fault_of known ranged distinct ≡ None → Fits known ranged distinct
 fits known ranged distinct e =
-    let k = tested known _ 9 e in
-    let r = tested ranged _ 10 k.1 in
-    let d = tested distinct 0 13 r.1 in
+    let k = tested known _ _ e in
+    let r = tested ranged _ _ k.1 in
+    let d = tested distinct _ _ r.1 in
     record { known_is = k.0; ranged_is = r.0; distinct_is = d.0 }
 
 module _ (p : List ℕ) (c : Counts) (o : passes (rows_of p c) ≡ true) (i : ℕ) where

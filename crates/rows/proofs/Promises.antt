@@ -8,19 +8,22 @@
 --     refs_rise         and its references rise strictly
 -- Assumes nothing.
 use Prim.Native.Nat.{ℕ, zero, suc, ◌+◌, ◌*◌, ◌-◌, ◌<◌}
-use mathlib.Core.Path.{◌≡◌, refl}
+use mathlib.Core.Path.{◌≡◌, refl, sym}
 use mathlib.Core.Logic.{⊎_elim}
 use mathlib.Core.Bool.{Bool, true, ◌&&◌}
 use mathlib.Core.List.{List, [], ◌∷◌, ◌++◌}
 use native.Mathlib.Omega.{arith}
 use lib.Dec.{eqb, leb, ltb}
 use borrow.Author.Tests.{eqb-true, ltb-true, ne_eqb}
+use Rattle.std.proofs.Common.{Option, Some, None, Ok}
+use Rattle.laws.specs.Faults.{passes, faulted}
+use Rattle.laws.specs.declared.fault.Fault.{Fault}
+use Rattle.laws.specs.declared.fault.Fault.TheVariants.{UnknownRow, OutOfRange, NotDistinct}
 use Rattle.laws.specs.Choice.{pick, by_kind}
 use Rattle.laws.specs.Lists.{In, gather}
-use Rattle.laws.proofs.Choice.{tested, and_both}
+use Rattle.laws.proofs.Choice.{fails, tested, and_both}
 use Rattle.laws.proofs.First.{each, all_each}
 use Rattle.laws.proofs.Lists.{in_cons, in_one, in_append, gather_in}
-use Rattle.pack.specs.Answer.{refuse, passes}
 use Rattle.pack.specs.Lists.{list_len, list_item}
 use Rattle.pack.specs.Rows.{type_row, definition_row, expression_row, root_row, value_row}
 use Rattle.pack.specs.Named.{optional, items_of, seconds_of, arm_kids, type_parts_of, parts_of, fields_of, field_types_of, row_statements, row_operands, kids_of, refs_of}
@@ -28,7 +31,6 @@ use Rattle.pack.specs.declared.counts.Counts.{Counts}
 use Rattle.pack.specs.declared.rows.TypeRow.{TypeRow}
 use Rattle.pack.specs.declared.rows.DefinitionRow.{DefinitionRow}
 use Rattle.pack.specs.declared.rows.ExpressionRow.{ExpressionRow}
-use Rattle.pack.specs.declared.answer.Reading.TheVariants.{Pack}
 use Rattle.lists.specs.declared.lists.Items.{Items}
 use Rattle.lists.specs.declared.lists.Items.TheVariants.{Ids, Pairs, Variants, Arms}
 use Rattle.lists.specs.Limits.{optional_below, names, wild, slots, variables}
@@ -39,16 +41,20 @@ use Rattle.rows.specs.Definitions.{definition_in_range, definition_rule}
 use Rattle.rows.specs.Expressions.{expression_in_range, expression_rule}
 use Rattle.rows.specs.Roots.{root_in_range, root_rule}
 use Rattle.rows.specs.Values.{value_rule}
-use Rattle.rows.specs.Tables.{tables, rows_in, row_rule, table_of, rows_of}
+use Rattle.rows.specs.Tables.{tables, rows_in, row_rule, row_of, table_of, rows_of}
 
 -- ---- each row passed its rule
 
-pub rule_passed : (p : List ℕ) (c : Counts) → passes (rows_of p c) ≡ true → (table i : ℕ) → table < tables → i < rows_in c table → row_rule p c table i ≡ 0
+none_found : {A : Type 0} (place detail : ℕ) (x : A) (fault : Option Fault) → passes (faulted fault place detail (Ok x)) ≡ true → fault ≡ None
+none_found place detail x None e = refl
+none_found place detail x (Some fault) e = absurd (fails (sym e))
+
+pub rule_passed : (p : List ℕ) (c : Counts) → passes (rows_of p c) ≡ true → (table i : ℕ) → table < tables → i < rows_in c table → row_rule p c table i ≡ None
 unfolding rows_of table_of
 rule_passed p c e table i l h =
-    eqb-true (row_rule p c table i) 0
-    (each (λ i. eqb (row_rule p c table i) 0) (λ i. refuse (row_rule p c table i) i table) (Pack c) passes (λ k f. refl) (rows_in c table) 0
-    (each (λ t. passes (table_of p c t)) (table_of p c) (Pack c) passes (λ k f. f) tables 0 e table (omega arith) l)
+    none_found i table c (row_rule p c table i)
+    (each (λ i. passes (row_of p c table i)) (row_of p c table) (Ok c) passes (λ k f. f) (rows_in c table) 0
+    (each (λ t. passes (table_of p c t)) (table_of p c) (Ok c) passes (λ k f. f) tables 0 e table (omega arith) l)
     i (omega arith) h)
 
 -- ---- lists in range
@@ -108,10 +114,10 @@ one_below {limit} k x e m = omega (arith, in_one k x m, ltb-true x limit e)
 cons_below : {limit : ℕ} (k x : ℕ) (xs : List ℕ) → ltb x limit ≡ true → (In k xs → k < limit) → In k (x ∷ xs) → k < limit
 cons_below {limit} k x xs e r m = ⊎_elim (λ q. omega (arith, ltb-true x limit e)) r (in_cons k x xs m)
 
--- ---- a row's two tests, from its rule's number
+-- ---- a row's two tests, from its rule's fault
 
-passed : (known ranged : Bool) (rest : ℕ) → pick known (pick ranged rest 11) 10 ≡ 0 → ranged ≡ true
-passed known ranged rest e = (tested ranged rest 10 (tested known (pick ranged rest 11) 9 e).1).0
+passed : (known ranged : Bool) (rest : Option Fault) → pick known (pick ranged rest (Some OutOfRange)) (Some UnknownRow) ≡ None → ranged ≡ true
+passed known ranged rest e = (tested ranged rest _ (tested known (pick ranged rest (Some OutOfRange)) _ e).1).0
 
 -- ---- types
 
@@ -220,5 +226,5 @@ pub refs_rise : (p : List ℕ) (c : Counts) → passes (rows_of p c) ≡ true �
 unfolding row_rule by_kind value_rule items_rise
 refs_rise p c o v k l h =
     let s = (value_row p c v).list in
-    let z = (tested _ _ 10 (tested _ _ 9 (rule_passed p c o 4 v (omega arith) l)).1).1 in
-    ltb-true (list_item p c s k) (list_item p c s (k + 1)) (all_each (λ j. ltb (list_item p c s j) (list_item p c s (j + 1))) (list_len p c s - 1) (tested _ _ 13 z).0 k (omega arith))
+    let z = (tested _ _ _ (tested _ _ _ (rule_passed p c o 4 v (omega arith) l)).1).1 in
+    ltb-true (list_item p c s k) (list_item p c s (k + 1)) (all_each (λ j. ltb (list_item p c s j) (list_item p c s (j + 1))) (list_len p c s - 1) (tested _ _ _ z).0 k (omega arith))

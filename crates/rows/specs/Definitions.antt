@@ -1,6 +1,7 @@
 -- "Definition: kind 2 (0 enum, 1 record, 2 runtime, 3 list), parameters 4, zero 12, list 14."
-use Rattle.std.specs.Prelude.{ℕ, Bool, true, false, ◌&&◌, List, [], ◌∷◌, eqb}
+use Rattle.std.specs.Prelude.{ℕ, Bool, true, false, ◌&&◌, List, [], ◌∷◌, eqb, Option}
 use Rattle.laws.specs.Choice.{by_kind}
+use Rattle.laws.specs.declared.fault.Fault.{Fault}
 use Rattle.pack.specs.Rows.{definition_row}
 use Rattle.pack.specs.declared.counts.Counts.{Counts}
 use Rattle.pack.specs.declared.rows.DefinitionRow.{DefinitionRow}
@@ -29,7 +30,7 @@ unfoldable pub definition_distinct : List ℕ → Counts → DefinitionRow → B
 definition_distinct p c r =
     by_kind r r.kind true ((λ r. names_differ p c r.list) ∷ (λ r. names_differ p c r.list) ∷ [])
 
-unfoldable pub definition_rule : List ℕ → Counts → ℕ → ℕ
+unfoldable pub definition_rule : List ℕ → Counts → ℕ → Option Fault
 definition_rule p c i =
     fault_of (definition_known (definition_row p c i)) (definition_in_range p c (definition_row p c i))
     (definition_distinct p c (definition_row p c i))

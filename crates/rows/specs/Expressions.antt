@@ -1,7 +1,8 @@
 -- "Expression: kind 6, op 6, a, b, c of 14 each, zero 10." Refusals 10 and 11 of a row, kinds 0 to 8 in their order:
 -- literal, slot, block, let, match, operator, record, field, return.
-use Rattle.std.specs.Prelude.{ℕ, Bool, true, false, ◌&&◌, List, [], ◌∷◌, ltb, eqb}
+use Rattle.std.specs.Prelude.{ℕ, Bool, true, false, ◌&&◌, List, [], ◌∷◌, ltb, eqb, Option}
 use Rattle.laws.specs.Choice.{by_kind}
+use Rattle.laws.specs.declared.fault.Fault.{Fault}
 use Rattle.pack.specs.Rows.{expression_row}
 use Rattle.pack.specs.declared.counts.Counts.{Counts}
 use Rattle.pack.specs.declared.rows.ExpressionRow.{ExpressionRow}
@@ -48,5 +49,5 @@ expression_in_range p c e r =
     ∷ (λ r. optional_below e r.a)
     ∷ [])
 
-unfoldable pub expression_rule : List ℕ → Counts → ℕ → ℕ
+unfoldable pub expression_rule : List ℕ → Counts → ℕ → Option Fault
 expression_rule p c e = fault_of (expression_known (expression_row p c e)) (expression_in_range p c e (expression_row p c e)) true

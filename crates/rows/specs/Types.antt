@@ -1,7 +1,9 @@
 -- "Type: kind 4, a 14, b 14." Refusals 10, 11 and 14 of a type row, kinds 0 to 10 in their order:
 -- never, unit, primitive, explicit variable, named, record, function, variable, integer variable, float variable, record variable.
-use Rattle.std.specs.Prelude.{ℕ, Bool, true, false, ◌&&◌, ◌||◌, List, [], ◌∷◌, leb, ltb, eqb}
+use Rattle.std.specs.Prelude.{ℕ, Bool, true, false, ◌&&◌, ◌||◌, List, [], ◌∷◌, leb, ltb, eqb, Option, Some, None}
 use Rattle.laws.specs.Choice.{pick, by_kind}
+use Rattle.laws.specs.declared.fault.Fault.{Fault}
+use Rattle.laws.specs.declared.fault.Fault.TheVariants.{UnknownRow, OutOfRange, NotDistinct}
 use Rattle.pack.specs.Rows.{type_row, definition_row}
 use Rattle.pack.specs.Lists.{list_len}
 use Rattle.pack.specs.declared.counts.Counts.{Counts}
@@ -59,9 +61,9 @@ unfoldable pub type_distinct : List ℕ → Counts → TypeRow → Bool
 type_distinct p c r =
     pick (eqb r.kind 5) (names_differ p c r.b) (pick (eqb r.kind 10) (names_differ p c r.b) true)
 
--- "per row 10, 11, 14": the number of a row's first fault, or 0
-abbrev pub fault_of : Bool → Bool → Bool → ℕ
-fault_of known ranged distinct = pick known (pick ranged (pick distinct 0 14) 11) 10
+-- "per row 10, 11, 14": a row's first fault, if it has one
+abbrev pub fault_of : Bool → Bool → Bool → Option Fault
+fault_of known ranged distinct = pick known (pick ranged (pick distinct None (Some NotDistinct)) (Some OutOfRange)) (Some UnknownRow)
 
-unfoldable pub type_rule : List ℕ → Counts → ℕ → ℕ
+unfoldable pub type_rule : List ℕ → Counts → ℕ → Option Fault
 type_rule p c i = fault_of (type_known (type_row p i)) (type_in_range p c i (type_row p i)) (type_distinct p c (type_row p i))

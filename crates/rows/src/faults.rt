@@ -2,11 +2,20 @@
 ghost use Rattle.std.specs.Prelude.{◌≡◌};
 ghost use Rattle.rows.specs.Types.{fault_of};
 
-use laws::unless;
+use laws::Fault;
 
-// The number of a row's first fault, or 0.
-pub fn fault_of(known: bool, ranged: bool, distinct: bool) -> u32
+// A row's first fault, if it has one.
+#[tactic(auto, unfolding(laws::specs::Choice::pick))]
+pub fn fault_of(known: bool, ranged: bool, distinct: bool) -> Option<Fault>
     ensures { result ≡ fault_of known ranged distinct }
 {
-    unless(known, 10, unless(ranged, 11, unless(distinct, 14, 0)))
+    if !known {
+        Some(Fault::UnknownRow)
+    } else if !ranged {
+        Some(Fault::OutOfRange)
+    } else if !distinct {
+        Some(Fault::NotDistinct)
+    } else {
+        None
+    }
 }

@@ -9,8 +9,9 @@ use crate::expressions::expression_rule;
 use crate::roots::root_rule;
 use crate::types::type_rule;
 use crate::values::value_rule;
+use laws::{Fault, Refusal};
 use lists::{Peaks, fill_tree};
-use pack::{Counts, Reading, refused};
+use pack::Counts;
 
 const TABLES: u32 = 5;
 
@@ -27,8 +28,14 @@ fn rows_in(c: Counts, table: u32) -> u32
     }
 }
 
-// The number of the first fault of row i of a table, or 0.
-fn row_rule(pack: &[u8], c: Counts, table: u32, i: u32, peaks: &[u16; Peaks::CAPACITY]) -> u32
+// The first fault of row i of a table, if it has one.
+fn row_rule(
+    pack: &[u8],
+    c: Counts,
+    table: u32,
+    i: u32,
+    peaks: &[u16; Peaks::CAPACITY],
+) -> Option<Fault>
     requires { PeaksOf pack.now c peaks.now × (i ≤ never) }
     ensures { result ≡ row_rule pack.now c table i }
 {
@@ -38,48 +45,46 @@ fn row_rule(pack: &[u8], c: Counts, table: u32, i: u32, peaks: &[u16; Peaks::CAP
         2 => expression_rule(pack, c, i, peaks),
         3 => root_rule(pack, c, i, peaks),
         4 => value_rule(pack, c, i, peaks),
-        _ => 0,
+        _ => None,
     }
 }
 
 // One table.
-fn table_rows(pack: &[u8], c: Counts, table: u32, peaks: &[u16; Peaks::CAPACITY]) -> Reading
+fn table_rows(
+    pack: &[u8],
+    c: Counts,
+    table: u32,
+    peaks: &[u16; Peaks::CAPACITY],
+) -> Result<Counts, Refusal>
     requires { PeaksOf pack.now c peaks.now × (in_limits c ≡ true) }
     ensures { result ≡ table_of pack.now c table }
 {
     let n = rows_in(c, table);
-    let mut i = 0;
-    while i < n {
-        let number = row_rule(pack, c, table, i, peaks);
-        if number != 0 {
-            return refused(number, i, table as u64);
+    for i in 0..n {
+        if let Some(fault) = row_rule(pack, c, table, i, peaks) {
+            return Err(Refusal {
+                fault: fault,
+                place: i,
+                detail: u64::from(table),
+            });
         }
-        i += 1;
     }
-    Reading::Pack(c)
+    Ok(c)
 }
 
 // All tables, the first that does not pass being the answer.
-fn all_tables(pack: &[u8], c: Counts, peaks: &[u16; Peaks::CAPACITY]) -> Reading
+fn all_tables(pack: &[u8], c: Counts, peaks: &[u16; Peaks::CAPACITY]) -> Result<Counts, Refusal>
     requires { PeaksOf pack.now c peaks.now × (in_limits c ≡ true) }
     ensures { result ≡ rows_of pack.now c }
 {
-    let mut table = 0;
-    while table < TABLES {
-        let answer = table_rows(pack, c, table, peaks);
-        match answer {
-            Reading::Pack(_) => {
-                table += 1;
-            }
-            Reading::Refused(r) => {
-                return Reading::Refused(r);
-            }
-        }
+    for table in 0..TABLES {
+        table_rows(pack, c, table, peaks)?;
     }
-    Reading::Pack(c)
+    Ok(c)
 }
 
-pub fn rows(pack: &[u8], c: Counts) -> Reading
+// The counts of a pack whose rows have no fault, or the first refusal.
+pub fn rows(pack: &[u8], c: Counts) -> Result<Counts, Refusal>
     requires { in_limits c ≡ true }
     ensures { result ≡ rows_of pack.now c }
 {

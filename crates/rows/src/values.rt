@@ -4,11 +4,12 @@ ghost use Rattle.lists.specs.Peaks.{Peaks as PeaksOf};
 ghost use Rattle.rows.specs.Values.{value_rule};
 
 use crate::faults::fault_of;
+use laws::Fault;
 use lists::{Items, Peaks, items_fit, items_rise};
 use pack::{Counts, value_row};
 
-// The number of the first fault of value row i, or 0.
-pub fn value_rule(pack: &[u8], c: Counts, i: u32, peaks: &[u16; Peaks::CAPACITY]) -> u32
+// The first fault of value row i, if it has one.
+pub fn value_rule(pack: &[u8], c: Counts, i: u32, peaks: &[u16; Peaks::CAPACITY]) -> Option<Fault>
     requires { PeaksOf pack.now c peaks.now }
     ensures { result ≡ value_rule pack.now c i }
 {

@@ -1,8 +1,9 @@
 -- The steps of the loops that open and close slots: what is left leaves what the whole leaves.
+--     open_plain                                        a slot list is one that is opened at each item
 --     open_starts, open_goes, open_stops, open_ends     slots open one after the other
 --     shut_starts, shut_goes, shut_ends                 slots close
 -- Assumes nothing.
-use Prim.Native.Nat.{ℕ, suc, ◌+◌, ◌-◌, ◌<◌, ◌≤◌}
+use Prim.Native.Nat.{ℕ, zero, suc, ◌+◌, ◌-◌, ◌*◌, ◌<◌, ◌≤◌}
 use mathlib.Core.Path.{◌≡◌, refl, sym, ap, ◌∙◌}
 use mathlib.Core.Bool.{Bool, true, false}
 use mathlib.Core.List.{List, [], ◌∷◌, ◌++◌}
@@ -15,11 +16,28 @@ use Rattle.laws.specs.Bounded.{put}
 use Rattle.laws.specs.Lists.{gather}
 use Rattle.laws.proofs.Choice.{yes, no}
 use Rattle.pack.specs.Rows.{expression_row}
+use Rattle.pack.specs.Lists.{list_len, list_item}
+use Rattle.structure.specs.Types.{code_in}
 use Rattle.pack.specs.declared.counts.Counts.{Counts}
 use Rattle.pack.specs.declared.rows.ExpressionRow.{ExpressionRow}
-use Rattle.slots.specs.Slots.{slots, closed, let_slot, open_with, unbound, opened, Opening, opening, open_all, shut}
+use Rattle.slots.specs.Slots.{slots, closed, let_slot, open_with, unbound, opened, Opening, opening, open_all, open_each, open_list, shut}
 
 -- ---- opening
+
+-- slots and types that are read in another way, and are the same
+open_same : (f g s t : ℕ → ℕ) → ((k : ℕ) → f k ≡ g k) → ((k : ℕ) → s k ≡ t k) → (n k : ℕ) (xs : List ℕ) → open_all f s k n xs ≡ open_all g t k n xs
+unfolding open_all
+open_same f g s t e q zero k xs = refl
+open_same f g s t e q (suc n) k xs = rw (e k, q k, open_same f g s t e q n (suc k)) refl
+
+-- a slot list is opened at each item, with the type at the same place
+pub open_plain : (p : List ℕ) (c : Counts) (same : List ℕ) (list fields : ℕ) (xs : List ℕ) → open_each 1 0 p c same list fields xs ≡ open_list p c same list fields xs
+unfolding open_list
+open_plain p c same list fields xs =
+    open_same _ _ _ _
+    (λ k. ap (list_item p c list) (let e : 1 * k ≡ k = omega arith in e))
+    (λ k. ap (λ (i : ℕ). code_in p c same (list_item p c fields i)) (let e : 1 * k + 0 ≡ k = omega arith in e))
+    (list_len p c list) 0 xs
 
 -- of n slots those from the k-th on are left
 pub record OpenLeft (slot_at code_at : ℕ → ℕ) (k n : ℕ) (xs : List ℕ) (whole : Opening) : Type 0 where

@@ -45,6 +45,11 @@ open_all slot_at code_at k (suc n) xs =
     let rest = open_all slot_at code_at (suc k) n (put slots xs (slot_at k) (open_with (code_at k))) in
     pick (unbound xs (slot_at k)) rest (opening false xs)
 
+-- the slots at each `step` items of a list, each with the type `first` items further on in a list of types
+abbrev pub open_each : ℕ → ℕ → List ℕ → Counts → List ℕ → ℕ → ℕ → List ℕ → Opening
+open_each step first p c same list fields xs =
+    open_all (λ k. list_item p c list (step * k)) (λ k. code_in p c same (list_item p c fields (step * k + first))) 0 (list_len p c list) xs
+
 -- a slot list beside a list of field types
 unfoldable pub open_list : List ℕ → Counts → List ℕ → ℕ → ℕ → List ℕ → Opening
 open_list p c same list fields xs = open_all (λ k. list_item p c list k) (λ k. code_in p c same (list_item p c fields k)) 0 (list_len p c list) xs

@@ -7,6 +7,7 @@ use pack::{Counts, expression_row, list_item, list_len};
 
 const LET: u32 = 3;
 
+#[tactic(auto, unfolding(crate::specs::Slots::shut))]
 fn close_slot(slots: &mut [u32; Slots::CAPACITY], a: u32)
     ensures { slots.new ≡ shut slots.old (a ∷ []) }
 {
@@ -14,12 +15,12 @@ fn close_slot(slots: &mut [u32; Slots::CAPACITY], a: u32)
 }
 
 // The slot of a statement that is a let.
+#[tactic(auto, unfolding(crate::specs::Slots::shut, crate::specs::Slots::let_slot, laws::specs::Choice::pick))]
 fn close_let(pack: &[u8], c: Counts, slots: &mut [u32; Slots::CAPACITY], e: u32)
     ensures { slots.new ≡ shut slots.old (let_slot pack.now c e) }
 {
     let row = expression_row(pack, c, e);
-    let kind = row.kind;
-    if kind == LET {
+    if row.kind == LET {
         close_slot(slots, row.a);
     }
 }
@@ -28,12 +29,8 @@ fn close_let(pack: &[u8], c: Counts, slots: &mut [u32; Slots::CAPACITY], e: u32)
 pub fn close_list(pack: &[u8], c: Counts, slots: &mut [u32; Slots::CAPACITY], list: u32)
     ensures { slots.new ≡ close_list pack.now c list slots.old }
 {
-    let n = list_len(pack, c, list);
-    let mut k: u32 = 0;
-    while k < n {
-        let a = list_item(pack, c, list, k);
-        close_slot(slots, a);
-        k += 1;
+    for k in 0..list_len(pack, c, list) {
+        close_slot(slots, list_item(pack, c, list, k));
     }
 }
 
@@ -41,11 +38,7 @@ pub fn close_list(pack: &[u8], c: Counts, slots: &mut [u32; Slots::CAPACITY], li
 pub fn close_lets(pack: &[u8], c: Counts, slots: &mut [u32; Slots::CAPACITY], list: u32)
     ensures { slots.new ≡ close_lets pack.now c list slots.old }
 {
-    let n = list_len(pack, c, list);
-    let mut k: u32 = 0;
-    while k < n {
-        let e = list_item(pack, c, list, k);
-        close_let(pack, c, slots, e);
-        k += 1;
+    for k in 0..list_len(pack, c, list) {
+        close_let(pack, c, slots, list_item(pack, c, list, k));
     }
 }

@@ -27,16 +27,14 @@ impl Slots {
     }
 }
 
+#[tactic(auto, unfolding(laws::specs::Bounded::get, laws::specs::Choice::pick))]
 pub fn slot_at(slots: &[u32; Slots::CAPACITY], a: u32) -> u32
     ensures { result ≡ get slot_count slots.now a }
 {
-    if (a as usize) < Slots::CAPACITY {
-        slots[a as usize]
-    } else {
-        0
-    }
+    slots.get(a as usize).copied().unwrap_or(Slots::UNBOUND)
 }
 
+#[tactic(auto, unfolding(laws::specs::Bounded::put, laws::specs::Choice::pick))]
 pub fn put_slot(slots: &mut [u32; Slots::CAPACITY], a: u32, holds: u32)
     ensures { slots.new ≡ put slot_count slots.old a holds }
 {

@@ -2,7 +2,7 @@
 -- Assumes nothing.
 use mathlib.Core.Path.{◌≡◌, sym, ◌∙◌}
 use mathlib.Core.List.{List}
-use Prim.Native.Nat.{ℕ, ◌+◌, ◌*◌, ◌<◌, ◌≤◌}
+use Prim.Native.Nat.{ℕ, ◌+◌, ◌<◌, ◌≤◌}
 use native.Mathlib.Omega.{arith}
 use lib.ListN.{length, get_or, set, length-set, replicate, length-replicate, get_or-replicate, get_or-eq_default}
 use lib.Seq.{get_or-set_same, get_or-set_other}
@@ -11,11 +11,8 @@ use Rattle.laws.proofs.Bounded.{get_in, get_out, put_in, get_same}
 use Rattle.laws.proofs.Choice.{by_eq, by_test}
 use Rattle.structure.specs.Structure.{rows}
 use Rattle.structure.specs.Table.{Clear}
-use mathlib.Core.Bool.{true}
-use lib.Dec.{ltb, leb}
-use borrow.Author.Tests.{ltb-true, ltb-false, leb-true}
-use mir.Val.{Fits}
-use mir.Syntax.{w32, w64}
+use lib.Dec.{ltb}
+use borrow.Author.Tests.{ltb-true, ltb-false}
 
 -- n zeros
 pub zeros_at : (n k : ℕ) → get_or (replicate {A = ℕ} n 0) k 0 ≡ 0
@@ -67,15 +64,3 @@ set_there n xs i x k d =
     by_test (ltb k n)
     (λ t. sym (get_in n (set xs i x) k (ltb-true k n t)) ∙ get_or-set_other xs i k x 0 d ∙ get_in n xs k (ltb-true k n t))
     (λ f. sym (get_out n (set xs i x) k (ltb-false k n f)) ∙ get_out n xs k (ltb-false k n f))
-
--- ---- place x of an array of k entries, 4 bytes each
-
-module _ {x k : ℕ} (h : x < k) (room : leb k 32769 ≡ true) where
-  pub fits : Fits w64 x
-  fits = let l = leb-true k 32769 room in omega arith
-
-  pub offset : Fits w64 (x * 4)
-  offset = let l = leb-true k 32769 room in omega arith
-
-  pub more : Fits w32 (x + 1)
-  more = let l = leb-true k 32769 room in omega arith

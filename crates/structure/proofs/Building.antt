@@ -11,11 +11,10 @@ use mathlib.Core.List.{List}
 use mathlib.Core.Bool.{Bool, true, false, not, ◌&&◌, ◌||◌, or_assoc}
 use Prim.Native.Nat.{ℕ, ◌+◌, ◌-◌, ◌*◌, ◌/◌, ◌%◌, ◌<◌, ◌≤◌}
 use native.Mathlib.Omega.{arith}
-use lib.Dec.{eqb, ltb}
+use lib.Dec.{eqb}
 use lib.ListN.{length, get_or, set, length-set, replicate, length-replicate}
 use lib.Seq.{get_or-set_same, get_or-set_other}
-use borrow.Author.Tests.{eqb-true, eqb-false, eq-eqb, ne_eqb, leb-true, lt-ltb, le-ltb, ltb-true, ltb-false, not-true}
-use Rattle.laws.specs.Choice.{pick}
+use borrow.Author.Tests.{eqb-true, eqb-false, eq-eqb, ne_eqb, leb-true, not-true}
 use Rattle.laws.specs.First.{all}
 use Rattle.laws.specs.Lists.{bit}
 use Rattle.laws.specs.Bounded.{get, put}
@@ -30,13 +29,20 @@ use Rattle.pack.specs.declared.counts.Counts.{Counts}
 use Rattle.unionfind.proofs.Chains.{not_both}
 use Rattle.structure.specs.Structure.{rows, PartsSmaller, equal, row_number, is_var_kind, any_of, holds}
 use Rattle.structure.specs.Lists.{words, len_at, part_at, sort_of, Within, fits, part_place, Spot, part, name, seen}
-use Rattle.structure.specs.Table.{Clear, entry, held_in, code_at, first_of, key_of, mark_of, has_key, Hit, Numbers}
-use Rattle.structure.specs.Facts.{slots, has_list, Finds, used, walked, searched, FactsTold, ListKept, RowKept}
+use Rattle.structure.specs.Table.{Clear, entry, held_in, code_at, first_of, key_of, mark_of, has_key, Hit, entry_or, Numbers}
+use Rattle.structure.specs.Facts.{slots, has_list, row_in, Unplaced, Finds, used, walked, searched, FactsTold, ListKept, RowKept}
 use Rattle.structure.specs.Words.{looks, look_at, Read, Noted, WordsHeld}
-use Rattle.structure.specs.Tree.{cells_len, cell_at, sorts, root_at, place_of, member_key, Says, Compared, Apart, Ended, old, fork, ended, missed, Finding, first, below, Grown, Walked, Shape}
+use Rattle.structure.specs.Tree.{cell_at, sorts, root_at, place_of, member_key, Compared, Apart, Ended, old, fork, ended, missed, Finding, first, below, Sound, Bare, roots_with, cells_with, test_in, key_in, Grown, Walked, Shape}
 use Rattle.structure.specs.declared.tree.Stop.{Stop}
 use Rattle.structure.specs.declared.finding.Found.{Found}
+use Rattle.structure.specs.declared.finding.Found.TheVariants.{Same, Loose, Root, Member, Fork}
+use Rattle.std.specs.Prelude.{Option, None, Some}
+use Rattle.std.proofs.lemmas.Option.{none-some}
 use Rattle.structure.specs.declared.facts.ListFacts.{ListFacts}
+use Rattle.structure.specs.declared.facts.KnownLists.{KnownLists}
+use Rattle.structure.specs.declared.buckets.Chains.{Chains}
+use Rattle.structure.specs.declared.table.TypeTable.{TypeTable}
+use Rattle.structure.specs.declared.tree.ListTrees.{ListTrees}
 use Rattle.structure.proofs.Arrays.{zeros_at, Filled, filled_none, filled_more, filled_entry, Empty, empty_more}
 use Rattle.structure.proofs.Pairs.{both_true, bit_test, bit_zero}
 use Rattle.structure.proofs.Flat.{part_in, return_in, AnyPart, any_part}
@@ -50,9 +56,6 @@ use Rattle.structure.proofs.Forest.{Forest, forest_none, forest_same, forest_roo
 -- three tests, of which the last two are others
 three : (a : Bool) {b d x y : Bool} → b ≡ x → d ≡ y → (a || d || b) ≡ (a || (y || x))
 three a {b = b} {d = d} {x = x} {y = y} e q = rw (e, q) (or_assoc a y x)
-
-last_is : {k i : ℕ} → k ≤ i → i ≤ k → k ≡ i
-last_is a b = omega arith
 
 -- a number and a bit as one
 pub bit_small : (b : Bool) → bit b < 2
@@ -87,17 +90,17 @@ module _ (p : List ℕ) (c : Counts) where
   abbrev pub view_at : ℕ → ℕ → ℕ
   view_at k = seen p c coded (slot_at p c k)
 
-  abbrev pub Trees : ℕ → List ℕ → List ℕ → List ℕ → List ℕ → Type 0
-  Trees i roots cells tests keys = Forest sort_at view_at (λ k. list_number p c k ≡ k) i roots cells tests keys
+  abbrev pub Trees : ℕ → ListTrees → Type 0
+  Trees i t = Forest sort_at view_at (λ k. list_number p c k ≡ k) i t.roots t.cells t.tests t.members.keys
 
-  pub record Right (fit : Bool) (i : ℕ) (ls hs ks ss ms look roots cells tests members : List ℕ) : Type 0 where
-    pub lists : Filled (list_number p c) ls i
-    pub helds : Filled list_held hs i
+  pub record Right (fit : Bool) (i : ℕ) (q : KnownLists) (ks ss ms look : List ℕ) : Type 0 where
+    pub numbers : Filled (list_number p c) q.numbers i
+    pub helds : Filled list_held q.helds i
     pub keys : Filled (row_key p c) ks i
     pub same : Filled (row_number p c) ss i
     pub marks : Filled mark ms i
     pub typed : (k : ℕ) → k < words → list_word p c k < i → get looks look k ≡ coded (list_word p c k)
-    pub trees : fit ≡ true → Trees i roots cells tests members
+    pub trees : fit ≡ true → Trees i q.trees
 
   -- for each list, one more than a row below i that has it, or 0
   pub record Users (i : ℕ) (users : List ℕ) : Type 0 where
@@ -105,9 +108,9 @@ module _ (p : List ℕ) (c : Counts) where
     pub row : (s : ℕ) → (get_or users s 0 ≡ 0 → ⊥) → get_or users s 0 - 1 < i
     pub slot : (s : ℕ) → (get_or users s 0 ≡ 0 → ⊥) → slot_at p c (get_or users s 0 - 1) ≡ s
 
-  pub record Built (fit : Bool) (i : ℕ) (us ls hs ks ss ms look roots cells tests members : List ℕ) : Type 0 where
-    pub users : Users i us
-    pub right : PartsSmaller p c → Right fit i ls hs ks ss ms look roots cells tests members
+  pub record Built (fit : Bool) (i : ℕ) (q : KnownLists) (ks ss ms look : List ℕ) : Type 0 where
+    pub users : Users i q.users
+    pub right : PartsSmaller p c → Right fit i q ks ss ms look
     pub size : length ss ≡ rows
     pub size_marks : length ms ≡ rows
     pub rest : Empty ss i
@@ -151,7 +154,7 @@ module _ (p : List ℕ) (c : Counts) where
   no_spot (name m h e q) = omega arith
 
   module _ (small : PartsSmaller p c) {fit : Bool} {i : ℕ} (inside : i < c.types) (room : i < rows)
-      {lists helds keys same marks look roots cells tests members : List ℕ} (done : Right fit i lists helds keys same marks look roots cells tests members) where
+      {known : KnownLists} {keys same marks look : List ℕ} (done : Right fit i known keys same marks look) where
     same_at_lem : (k : ℕ) → k < i → entry same k ≡ row_number p c k
     same_at_lem = filled_entry done.same (omega arith)
 
@@ -208,7 +211,7 @@ module _ (p : List ℕ) (c : Counts) where
     -- what is told of the list of row i is right
     pub record ListRight (l : ListFacts) : Type 0 where
       pub number : l.number ≡ list_number p c i
-      pub held : l.held ≡ list_held i
+      pub held : l.held ≡ held_in p c mark (slot_at p c i)
 
     LikeRow : ℕ → Type 0
     LikeRow k = row_like p c (row_number p c) k i ≡ true
@@ -216,14 +219,16 @@ module _ (p : List ℕ) (c : Counts) where
     number_like : (k : ℕ) → k < i → row_like p c (row_number p c) k i ≡ true → list_number p c k ≡ list_number p c i
     number_like k h e = rep_same (like_equivalence p c (row_number p c) c.types) k i (omega arith) inside e
 
-    module _ {s sort row : ℕ} {l : ListFacts} (told : FactsTold p c marks look lists helds fit i s sort row l) where
-      from_row : (k : ℕ) → k < i → row ≡ k → row_like p c (row_number p c) k i ≡ true → ListRight l
+    module _ {s sort : ℕ} {r : Found} {l : ListFacts} (told : FactsTold p c marks look known fit i s sort r l) where
+      from_row : (k : ℕ) → k < i → row_in r ≡ Some k → row_like p c (row_number p c) k i ≡ true → ListRight l
       from_row k h e t =
-          let r : row < i = omega (arith, e, h) in
+          let f = rw e at told.told in
           record {
-            number = told.number ∙ sym (yes (ltb row i) (entry lists row) i (lt-ltb row i r) refl) ∙ ap (entry lists) e ∙ filled_entry done.lists (omega arith) k h ∙ number_like k h t;
-            held = told.old r ∙ ap (entry helds) e ∙ filled_entry done.helds (omega arith) k h
-                ∙ ap bit (held_like k (omega arith) (to_coded k i (omega arith) (omega arith) (is_like p c (row_number p c) _ _ t)));
+            number = f.0 ∙ filled_entry done.numbers (omega arith) k h ∙ number_like k h t;
+            held = f.1
+                ∙ ap (λ (x : ℕ). not (eqb x 0)) (filled_entry done.helds (omega arith) k h)
+                ∙ bit_test _
+                ∙ held_like k (omega arith) (to_coded k i (omega arith) (omega arith) (is_like p c (row_number p c) _ _ t));
           }
 
       words_held : s ≡ slot_at p c i → sort ≡ sort_at i → fits p c (slot_at p c i) ≡ true → {b : Bool} → WordsHeld look s sort b → b ≡ held_in p c mark (slot_at p c i)
@@ -250,17 +255,15 @@ module _ (p : List ℕ) (c : Counts) where
           rw (o, d) (ap (λ (k : ℕ). eqb k 0) (odd_mark _ _ (bit_small (holds p c _)))))
           ∙ ap (λ (k : ℕ). all (λ m. eqb (mark (part_at p c (slot_at p c i) m)) 0) 0 k) (sort_half p c (slot_at p c i))))
 
-      from_none : row ≡ i → s ≡ slot_at p c i → sort ≡ sort_at i → (fit ≡ true → fits p c (slot_at p c i) ≡ true)
+      from_none : row_in r ≡ None → s ≡ slot_at p c i → sort ≡ sort_at i → (fit ≡ true → fits p c (slot_at p c i) ≡ true)
           → ((k : ℕ) → k < i → row_like p c (row_number p c) k i ≡ false) → ListRight l
       from_none e q w f none =
-          let n = told.new (omega (arith, e)) in
+          let n = rw e at told.told in
           record {
-            number = told.number ∙ sym (no (ltb row i) (entry lists row) i (le-ltb row i (omega (arith, e))) refl) ∙ sym (rep_none (like_equivalence p c (row_number p c) c.types) i inside none);
-            held = n.0
-                ∙ ap bit
-                (by_test fit
+            number = n.0 ∙ sym (rep_none (like_equivalence p c (row_number p c) c.types) i inside none);
+            held = by_test fit
                 (λ t. words_held q w (f t) (n.1.words t))
-                (λ t. n.1.pack t ∙ ap (held_in p c (entry marks)) q ∙ held_agree (slot_at p c i) marks_agree));
+                (λ t. n.1.pack t ∙ ap (held_in p c (entry marks)) q ∙ held_agree (slot_at p c i) marks_agree);
           }
 
     -- ---- what the walk finds
@@ -317,67 +320,56 @@ module _ (p : List ℕ) (c : Counts) where
           (λ e. omega (arith, w, span_pairs (sort_at i) e))
           (λ e. omega (arith, w, span_types (sort_at i) e)))
 
-      root_is_lem : root_at roots (sort_at i) ≡ get sorts roots (sort_at i)
-      root_is_lem = let e : sort_at i % sorts ≡ sort_at i = omega (arith, sort_small) in ap (λ (b : ℕ). get sorts roots b) e
+      root_is_lem : root_at known.trees.roots (sort_at i) ≡ get sorts known.trees.roots (sort_at i)
+      root_is_lem = let e : sort_at i % sorts ≡ sort_at i = omega (arith, sort_small) in ap (λ (b : ℕ). get sorts known.trees.roots b) e
 
-      module _ (F : Trees i roots cells tests members) (shape : Shape cells members i)
-          {l : ListFacts} {r : Found} (told : FactsTold p c marks look lists helds fit i (slot_at p c i) (sort_at i) r.row l)
-          {roots' cells' tests' members' : List ℕ} (grown : Grown roots cells tests members i (sort_at i) r roots' cells' tests' members') where
+      module _ (F : Trees i known.trees) (shape : Shape known.trees.cells known.trees.members.keys i)
+          {l : ListFacts} {r : Found} (told : FactsTold p c marks look known fit i (slot_at p c i) (sort_at i) r l)
+          {trees' : ListTrees} (grown : Grown known.trees i (sort_at i) r trees') where
         pub record Placed : Type 0 where
           pub right : ListRight l
-          pub trees : Trees (i + 1) roots' cells' tests' members'
+          pub trees : Trees (i + 1) trees'
 
-        roots_kept : r.root ≡ 0 → roots' ≡ roots
-        roots_kept e = grown.roots_set ∙ sym (yes (eqb r.root 0) roots _ (eq-eqb r.root 0 e) refl)
+        roots_set_lem : roots_with Root known.trees.roots (sort_at i) i ≡ set known.trees.roots (sort_at i) (i + 1)
+        roots_set_lem = let q : sort_at i % sorts ≡ sort_at i = omega (arith, sort_small) in ap (λ (b : ℕ). set known.trees.roots b (i + 1)) q
 
-        roots_set_lem : r.root ≡ 1 → roots' ≡ set roots (sort_at i) (i + 1)
-        roots_set_lem e =
-            let q : sort_at i % sorts ≡ sort_at i = omega (arith, sort_small) in
-            grown.roots_set ∙ sym (no (eqb r.root 0) roots _ (ne_eqb r.root 0 (λ z. omega (arith, e, z))) refl) ∙ ap (λ (b : ℕ). set roots b (i + 1)) q
-
-        cells_kept : r.cell ≡ 0 → cells' ≡ cells
-        cells_kept e = grown.cells_set ∙ sym (yes (eqb r.cell 0) cells _ (eq-eqb r.cell 0 e) refl)
-
-        cells_set_lem : (d : ℕ) → r.cell ≡ d + 1 → cells' ≡ set cells d (i + 1)
-        cells_set_lem d e =
-            let q : r.cell - 1 ≡ d = omega (arith, e) in
-            grown.cells_set ∙ sym (no (eqb r.cell 0) cells _ (ne_eqb r.cell 0 (λ z. omega (arith, e, z))) refl) ∙ ap (λ (b : ℕ). set cells b (i + 1)) q
-
-        tests_set_lem : (t : ℕ) → r.test ≡ t → tests' ≡ set tests i t
-        tests_set_lem t e = grown.tests_set ∙ ap (λ (b : ℕ). set tests i b) e
-
-        keys_set_lem : (k : ℕ) → r.key ≡ k → members' ≡ set members i k
-        keys_set_lem k e = grown.keys_set ∙ ap (λ (b : ℕ). set members i b) e
+        -- the trees, with what was found stored
+        stored : {f : Found} → r ≡ f
+            → Forest sort_at view_at (λ k. list_number p c k ≡ k) (i + 1) (roots_with f known.trees.roots (sort_at i) i) (cells_with f known.trees.cells i) (set known.trees.tests i (test_in f))
+            (set known.trees.members.keys i (key_in f))
+            → Trees (i + 1) trees'
+        stored e t = rw (grown.roots_set, grown.cells_set, grown.tests_set, grown.keys_set, e) t
 
         -- a row that looks the same: nothing is stored
-        pub placed_old : (k : ℕ) → k < i → row_like p c (row_number p c) k i ≡ true → Says r k 0 0 0 0 → Placed
+        pub placed_old : (k : ℕ) → k < i → row_like p c (row_number p c) k i ≡ true → r ≡ Same k → Placed
         placed_old k h t says = record {
-          right = from_row told k h says.row_is t;
-          trees = rw (roots_kept says.root_is, cells_kept says.cell_is, tests_set_lem 0 says.test_is, keys_set_lem 0 says.key_is)
+          right = from_row told k h (ap row_in says) t;
+          trees = stored says
               (forest_same sort_at view_at (λ k. list_number p c k ≡ k) F (omega arith) room
               (λ e. let b = rep_le (row_like p c (row_number p c)) k in let q = number_like k h t in omega (arith, b, q, e, h)));
         }
 
-        new_right : r.row ≡ i → ((q : ℕ) → q < i → list_number p c q ≡ q → row_like p c (row_number p c) q i ≡ true → ⊥) → ListRight l
+        new_right : row_in r ≡ None → ((q : ℕ) → q < i → list_number p c q ≡ q → row_like p c (row_number p c) q i ≡ true → ⊥) → ListRight l
         new_right e no_row = from_none told e refl refl (λ t. fitted i (omega arith)) (none_first no_row)
 
-        placed_root : root_at roots (sort_at i) ≡ 0 → Says r i 0 0 0 1 → Placed
+        placed_root : root_at known.trees.roots (sort_at i) ≡ 0 → r ≡ Root → Placed
         placed_root z says = record {
-          right = new_right says.row_is
+          right = new_right (ap row_in says)
               (λ q h kept t.
               let s = (F.stands q h kept).at in
               let e = (views_of_like q h t).0 in
               let y = rw e at s in
               omega (arith, y, root_is_lem, z));
-          trees = rw (roots_set_lem says.root_is, cells_kept says.cell_is, tests_set_lem 0 says.test_is, keys_set_lem 0 says.key_is)
-              (forest_root sort_at view_at (λ k. list_number p c k ≡ k) F (omega arith) room sort_small (sym root_is_lem ∙ z));
+          trees = stored says
+              (rw roots_set_lem
+              (forest_root sort_at view_at (λ k. list_number p c k ≡ k) F (omega arith) room sort_small (sym root_is_lem ∙ z)));
         }
 
-        module _ {k : ℕ} (rooted : root_at roots (sort_at i) ≡ k + 1) {z : Stop} (w : Walked (look_at look (slot_at p c i)) cells tests members i k z) where
-          at_root : get sorts roots (sort_at i) ≡ k + 1
+        module _ {k : ℕ} (rooted : root_at known.trees.roots (sort_at i) ≡ k + 1) {z : Stop} (w : Walked (look_at look (slot_at p c i)) known.trees.cells known.trees.tests known.trees.members.keys i k z) where
+          at_root : get sorts known.trees.roots (sort_at i) ≡ k + 1
           at_root = sym root_is_lem ∙ rooted
 
-          found_at : (q : ℕ) → q < i → list_number p c q ≡ q → row_like p c (row_number p c) q i ≡ true → (cell_at cells z.cell ≡ 0) × (z.row ≡ q)
+          found_at : (q : ℕ) → q < i → list_number p c q ≡ q → row_like p c (row_number p c) q i ≡ true → (cell_at known.trees.cells z.cell ≡ 0) × (z.row ≡ q)
           found_at q h kept t =
               let v = views_of_like q h t in
               met sort_at view_at (λ k. list_number p c k ≡ k) F (omega arith) (look_at look (slot_at p c i)) (look_view i (omega arith)) at_root w q h kept v.0 v.1
@@ -392,79 +384,81 @@ module _ (p : List ℕ) (c : Counts) where
           row_view : (o : ℕ) → Spot (sort_at i) o → look_at look (slot_at p c z.row) o ≡ view_at z.row o
           row_view o q = look_view z.row low_row o (rw row_like_lem q)
 
-          module _ {o : ℕ} (compared : Compared look (slot_at p c i) (slot_at p c z.row) (sort_at i) o) where
-            apart : (sort_at i ≡ 0 → ⊥) → Apart look (slot_at p c i / 2) (slot_at p c z.row / 2) (sort_at i) o
+          by_words : (sort_at i ≡ 0 → ⊥) → (q : ℕ) → Spot (sort_at i) q
+              → (look_at look (slot_at p c i) q ≡ get looks look (slot_at p c i / 2 + q)) × (look_at look (slot_at p c z.row) q ≡ get looks look (slot_at p c z.row / 2 + q))
+          by_words n q s =
+              let y = fit_within z.row (fitted z.row low_row) (λ k. n (sym row_like_lem ∙ k)) in (
+                look_is look (slot_at p c i) q (spot_small _ _ q (fit_within i (fitted i (omega arith)) n) s),
+                look_is look (slot_at p c z.row) q (spot_small _ _ q (rw row_like_lem at y) s),
+              )
+
+          module _ {f : Option ℕ} (compared : Compared look (slot_at p c i) (slot_at p c z.row) (sort_at i) f) where
+            apart : (sort_at i ≡ 0 → ⊥) → Apart look (slot_at p c i / 2) (slot_at p c z.row / 2) (sort_at i) f
             apart n =
                 let y = fit_within z.row (fitted z.row low_row) (λ q. n (sym row_like_lem ∙ q)) in
                 compared.apart (fit_within i (fitted i (omega arith)) n) (rw row_like_lem at y)
 
-            by_words : (sort_at i ≡ 0 → ⊥) → (q : ℕ) → Spot (sort_at i) q
-                → (look_at look (slot_at p c i) q ≡ get looks look (slot_at p c i / 2 + q)) × (look_at look (slot_at p c z.row) q ≡ get looks look (slot_at p c z.row / 2 + q))
-            by_words n q s =
-                let y = fit_within z.row (fitted z.row low_row) (λ k. n (sym row_like_lem ∙ k)) in (
-                  look_is look (slot_at p c i) q (spot_small _ _ q (fit_within i (fitted i (omega arith)) n) s),
-                  look_is look (slot_at p c z.row) q (spot_small _ _ q (rw row_like_lem at y) s),
-                )
+          alike : Compared look (slot_at p c i) (slot_at p c z.row) (sort_at i) None → (q : ℕ) → Spot (sort_at i) q → view_at z.row q ≡ view_at i q
+          alike compared q s =
+              by_eq (sort_at i) 0
+              (λ y. absurd (no_spot (rw y at s)))
+              (λ n.
+              let b = by_words n q s in
+              sym (row_view q s) ∙ b.1 ∙ sym ((apart compared n).told q s) ∙ sym b.0 ∙ look_view i (omega arith) q s)
 
-            alike : o ≡ 0 → (q : ℕ) → Spot (sort_at i) q → view_at z.row q ≡ view_at i q
-            alike e q s =
-                by_eq (sort_at i) 0
-                (λ y. absurd (no_spot (rw y at s)))
-                (λ n.
-                let b = by_words n q s in
-                sym (row_view q s) ∙ b.1 ∙ sym ((apart n).same e q s) ∙ sym b.0 ∙ look_view i (omega arith) q s)
+          differs : {o : ℕ} → Compared look (slot_at p c i) (slot_at p c z.row) (sort_at i) (Some o) → Spot (sort_at i) o × (view_at i o ≡ look_at look (slot_at p c z.row) o → ⊥)
+          differs {o = o} compared =
+              let m : sort_at i ≡ 0 → ⊥ = λ y. none-some _ (sym (compared.empty y)) in
+              let d = (apart compared m).told in
+              let b = by_words m o d.1 in
+              (d.1, λ q. d.2 (sym b.0 ∙ look_view i (omega arith) o d.1 ∙ q ∙ b.1))
 
-            differs : (n : o ≡ 0 → ⊥) → Spot (sort_at i) o × (view_at i o ≡ look_at look (slot_at p c z.row) o → ⊥)
-            differs n =
-                let m : sort_at i ≡ 0 → ⊥ = λ y. n (compared.empty y) in
-                let s = (apart m).place n in
-                let b = by_words m o s in
-                (s, λ q. (apart m).other n (sym b.0 ∙ look_view i (omega arith) o s ∙ q ∙ b.1))
-
-          placed_end : cell_at cells z.cell ≡ 0 → Ended p look i (slot_at p c i) (sort_at i) z.cell z.row r → Placed
-          placed_end e (old q says) = placed_old z.row w.below (like_of_views z.row w.below row_like_lem (alike q refl)) says
-          placed_end e (fork o n q small says) =
-              let d = differs q n in
+          placed_end : cell_at known.trees.cells z.cell ≡ 0 → Ended p look i (slot_at p c i) (sort_at i) z.cell z.row r → Placed
+          placed_end e (old q says) = placed_old z.row w.below (like_of_views z.row w.below row_like_lem (alike q)) says
+          placed_end e (fork o q small says) =
+              let d = differs q in
               let own = look_at look (slot_at p c z.row) o in
               let x = look_view i (omega arith) o d.0 in
               record {
-                right = new_right says.row_is
+                right = new_right (ap row_in says)
                     (λ m h kept t.
                     let f = (found_at m h kept t).1 in
                     let y = (views_of_like m h t).1 o d.0 in
                     d.1 (sym y ∙ ap (λ (k : ℕ). view_at k o) (sym f) ∙ sym (row_view o d.0)));
-                trees = rw (roots_kept says.root_is, cells_set_lem z.cell says.cell_is, tests_set_lem _ says.test_is, keys_set_lem _ says.key_is, x)
-                    (forest_fork sort_at view_at (λ k. list_number p c k ≡ k) F (omega arith) room (look_at look (slot_at p c i)) (look_view i (omega arith)) at_root w e o own d.0 small (sym (row_view o d.0)) d.1 shape.low);
+                trees = stored says
+                    (rw x
+                    (forest_fork sort_at view_at (λ k. list_number p c k ≡ k) F (omega arith) room (look_at look (slot_at p c i)) (look_view i (omega arith)) at_root w e o own d.0 small (sym (row_view o d.0)) d.1 shape.low));
               }
 
-          placed_member : (g : ℕ) → cell_at cells z.cell ≡ g + 1 → Says r i (member_key g (look_at look (slot_at p c i) (place_of tests g))) 0 0 0 → Placed
+          placed_member : (g : ℕ) → cell_at known.trees.cells z.cell ≡ g + 1 → r ≡ Member (member_key g (look_at look (slot_at p c i) (place_of known.trees.tests g))) → Placed
           placed_member g e says =
               let x = fork_view sort_at view_at (λ k. list_number p c k ≡ k) F (omega arith) (look_at look (slot_at p c i)) (look_view i (omega arith)) at_root w g e in
               record {
-                right = new_right says.row_is (λ m h kept t. let y = (found_at m h kept t).0 in omega (arith, y, e));
-                trees = rw (roots_kept says.root_is, cells_kept says.cell_is, tests_set_lem 0 says.test_is, keys_set_lem _ says.key_is, x)
-                    (forest_member sort_at view_at (λ k. list_number p c k ≡ k) F (omega arith) room (look_at look (slot_at p c i)) (look_view i (omega arith)) at_root w g e);
+                right = new_right (ap row_in says) (λ m h kept t. let y = (found_at m h kept t).0 in omega (arith, y, e));
+                trees = stored says
+                    (rw x
+                    (forest_member sort_at view_at (λ k. list_number p c k ≡ k) F (omega arith) room (look_at look (slot_at p c i)) (look_view i (omega arith)) at_root w g e));
               }
 
-        placed : Finding p look roots cells tests members i (slot_at p c i) (sort_at i) r → Placed
+        placed : Finding p look known.trees i (slot_at p c i) (sort_at i) r → Placed
         placed (first e says) = placed_root e says
         placed (below k e (ended z w x d)) = placed_end e w x d
         placed (below k e (missed z g w x says)) = placed_member e w g x says
 
     -- ---- what is found
 
-    module _ (read : Read p c look words) (fitted : fit ≡ true → (k : ℕ) → k ≤ i → fits p c (slot_at p c k) ≡ true) (shape : Shape cells members i)
-        {users : List ℕ} (u : Users i users) {s sort : ℕ} (slot_is : s ≡ slot_at p c i) (sort-is : sort ≡ sort_at i)
-        {l : ListFacts} {r : Found} (told : FactsTold p c marks look lists helds fit i s sort r.row l)
-        {roots' cells' tests' members' : List ℕ} (grown : Grown roots cells tests members i sort r roots' cells' tests' members') where
+    module _ (read : Read p c look words) (fitted : fit ≡ true → (k : ℕ) → k ≤ i → fits p c (slot_at p c k) ≡ true) (shape : Shape known.trees.cells known.trees.members.keys i)
+        (u : Users i known.users) {s sort : ℕ} (slot_is : s ≡ slot_at p c i) (sort-is : sort ≡ sort_at i)
+        {l : ListFacts} {r : Found} (told : FactsTold p c marks look known fit i s sort r l)
+        {trees' : ListTrees} (grown : Grown known.trees i sort r trees') where
       pub record Outcome : Type 0 where
         pub right : ListRight l
-        pub trees : fit ≡ true → Trees (i + 1) roots' cells' tests' members'
+        pub trees : fit ≡ true → Trees (i + 1) trees'
 
-      told_i : FactsTold p c marks look lists helds fit i (slot_at p c i) (sort_at i) r.row l
+      told_i : FactsTold p c marks look known fit i (slot_at p c i) (sort_at i) r l
       told_i = rw (slot_is, sort-is) at told
 
-      grown_i : Grown roots cells tests members i (sort_at i) r roots' cells' tests' members'
+      grown_i : Grown known.trees i (sort_at i) r trees'
       grown_i = rw sort-is at grown
 
       same_list : (k : ℕ) → slot_at p c k ≡ s → row_like p c (row_number p c) k i ≡ true
@@ -485,27 +479,26 @@ module _ (p : List ℕ) (c : Counts) where
           (like_agree p c (row_number p c) (entry same) (slot_at p c k) (slot_at p c i) (agree_back k (omega arith)) (agree_back i (omega arith)) (is_like p c (row_number p c) _ _ t)))))
           (λ t. t)
 
-      pub outcome : Finds p c same look users roots cells tests members fit i s sort r → Outcome
+      searched_right : (f : Found) → FactsTold p c marks look known fit i (slot_at p c i) (sort_at i) f l → fit ≡ false → Unplaced f → Hit (has_list p c same s) i (row_in f) → ListRight l
+      searched_right (Same k) o q u hit = from_row o k hit.0 refl (hit_like k hit.0 hit.1)
+      searched_right Loose o q u hit = from_none o refl refl refl (λ y. absurd (not_both q y)) (λ m b. hit_none m b (hit m b))
+      searched_right Root o q u hit = absurd u
+      searched_right (Member key) o q u hit = absurd u
+      searched_right (Fork cell test key) o q u hit = absurd u
+
+      pub outcome : Finds p c same look known fit i s sort r → Outcome
       outcome (used k e says) =
-          let small_slot : s < slots = by_bound slots users s (λ h. h) (λ h. absurd (omega (arith, e, get_out slots users s h))) in
-          let g : get_or users s 0 ≡ k + 1 = get_in slots users s small_slot ∙ e in
-          let n : get_or users s 0 ≡ 0 → ⊥ = λ q. omega (arith, q, g) in
-          let y : get_or users s 0 - 1 ≡ k = omega (arith, g) in
+          let small_slot : s < slots = by_bound slots known.users s (λ h. h) (λ h. absurd (omega (arith, e, get_out slots known.users s h))) in
+          let g : get_or known.users s 0 ≡ k + 1 = get_in slots known.users s small_slot ∙ e in
+          let n : get_or known.users s 0 ≡ 0 → ⊥ = λ q. omega (arith, q, g) in
+          let y : get_or known.users s 0 - 1 ≡ k = omega (arith, g) in
           let h : k < i = rw y at (u.row s n) in
           let t = same_list k (rw y at (u.slot s n)) in
-          record { right = from_row told_i k h says.row_is t; trees = λ q. (placed_old read (fitted q) (done.trees q) shape told_i grown_i k h t says).trees }
+          record { right = from_row told_i k h (ap row_in says) t; trees = λ q. (placed_old read (fitted q) (done.trees q) shape told_i grown_i k h t says).trees }
       outcome (walked q f) =
           let x = placed read (fitted q) (done.trees q) shape told_i grown_i (rw (slot_is, sort-is) at f) in
           record { right = x.right; trees = λ y. x.trees }
-      outcome (searched k q hit says) =
-          record {
-            right = by_test (ltb k i)
-                (λ t. let h = ltb-true k i t in from_row told_i k h says.row_is (hit_like k h (hit.some h)))
-                (λ t.
-                let h = ltb-false k i t in
-                from_none told_i (says.row_is ∙ last_is hit.high h) refl refl (λ y. absurd (not_both q y)) (λ m b. hit_none m b (hit.none h m b)));
-            trees = λ y. absurd (not_both q y);
-          }
+      outcome (searched q hit u) = record { right = searched_right r told_i q u hit; trees = λ y. absurd (not_both q y) }
 
     -- ---- the key, the number and the mark of row i
 
@@ -521,27 +514,23 @@ module _ (p : List ℕ) (c : Counts) where
     pub key_right : {l : ListFacts} → ListRight l → {key : ℕ} → key ≡ key_of (type_row p i).kind (first_of (entry same) (type_row p i)) l.number → key ≡ row_key p c i
     key_right r e = e ∙ key_of_lem _ _ _ _ _ _ refl first_right r.number
 
-    pub number_right : {key : ℕ} → key ≡ row_key p c i → {r x : ℕ} → Hit (has_key keys key) i r → x ≡ pick (ltb r i) (entry same r) i → x ≡ row_number p c i
-    unfolding row_number
-    number_right {key = key} e {r = r} {x = x} hit q =
-        by_test (ltb r i)
-        (λ t.
-        let h : r < i = ltb-true r i t in
-        let k : row_key p c r ≡ row_key p c i = sym (filled_entry done.keys (omega arith) r h) ∙ eqb-true _ _ (hit.some h) ∙ e in
-        q
-        ∙ sym (yes (ltb r i) (entry same r) i t refl)
-        ∙ same_at_lem r h
-        ∙ equal_number p c small r i (omega arith) inside (key_equal p c small r i (omega arith) inside (omega arith) room k))
-        (λ f.
-        q
-        ∙ sym (no (ltb r i) (entry same r) i f refl)
-        ∙ sym (rep_none (equivalence p c small) i inside (λ k h. apart k h (hit.none (ltb-false r i f) k h))))
-      where
-        apart : (k : ℕ) → k < i → eqb (entry keys k) key ≡ false → equal p c k i ≡ false
-        apart k h f =
-            by_test (equal p c k i)
-            (λ t. absurd (eqb-false _ _ f (filled_entry done.keys (omega arith) k h ∙ equal_key p c small k i (omega arith) inside t ∙ sym e)))
-            (λ t. t)
+    module _ {key : ℕ} (e : key ≡ row_key p c i) where
+      apart_key : (k : ℕ) → k < i → eqb (entry keys k) key ≡ false → equal p c k i ≡ false
+      apart_key k h f =
+          by_test (equal p c k i)
+          (λ t. absurd (eqb-false _ _ f (filled_entry done.keys (omega arith) k h ∙ equal_key p c small k i (omega arith) inside t ∙ sym e)))
+          (λ t. t)
+
+      number_found : (r : Option ℕ) → Hit (has_key keys key) i r → entry_or same r i ≡ row_number p c i
+      unfolding row_number
+      number_found None hit = sym (rep_none (equivalence p c small) i inside (λ k h. apart_key k h (hit k h)))
+      number_found (Some r) hit =
+          let h : r < i = hit.0 in
+          let k : row_key p c r ≡ row_key p c i = sym (filled_entry done.keys (omega arith) r h) ∙ eqb-true _ _ hit.1 ∙ e in
+          same_at_lem r h ∙ equal_number p c small r i (omega arith) inside (key_equal p c small r i (omega arith) inside (omega arith) room k)
+
+    pub number_right : {key : ℕ} → key ≡ row_key p c i → (r : Option ℕ) {x : ℕ} → Hit (has_key keys key) i r → x ≡ entry_or same r i → x ≡ row_number p c i
+    number_right e r hit q = q ∙ number_found e r hit
 
     -- the parts of row i that hold a variable
     held_parts : ((eqb (type_row p i).kind 6 && holds p c (type_row p i).a) || held_in p c mark (slot_at p c i)) ≡ any_of (holds p c) (parts_of p c i)
@@ -597,13 +586,12 @@ module _ (p : List ℕ) (c : Counts) where
     pub mark_right : {l : ListFacts} → ListRight l → {x : ℕ} → x ≡ mark_of (entry marks) (type_row p i) l.held → x ≡ mark i
     unfolding mark_of
     mark_right {l = l} r {x = x} e =
-        let held : not (eqb l.held 0) ≡ held_in p c mark (slot_at p c i) = ap (λ (y : ℕ). not (eqb y 0)) r.held ∙ bit_test _ in
         let six : (eqb (type_row p i).kind 6 && not (eqb (entry marks (type_row p i).a) 0)) ≡ (eqb (type_row p i).kind 6 && holds p c (type_row p i).a) =
         by_eq (type_row p i).kind 6
         (λ k. ap (λ (b : Bool). eqb (type_row p i).kind 6 && b) (ap (λ (y : ℕ). not (eqb y 0)) (marks_at _ (small i _ inside (return_in p c i k))) ∙ bit_test _))
         (λ k. rw (ne_eqb _ _ k))
         in
-        e ∙ ap bit (three (is_var_kind (type_row p i).kind) held six ∙ ap (λ (b : Bool). is_var_kind (type_row p i).kind || b) held_parts ∙ sym (holds_step p c small i inside))
+        e ∙ ap bit (three (is_var_kind (type_row p i).kind) r.held six ∙ ap (λ (b : Bool). is_var_kind (type_row p i).kind || b) held_parts ∙ sym (holds_step p c small i inside))
 
   -- ---- the whole
 
@@ -623,39 +611,37 @@ module _ (p : List ℕ) (c : Counts) where
       (λ q. z ∙ sym (yes (eqb (list_word p c k) i) x (get looks look k) (eq-eqb _ _ q) refl) ∙ e ∙ ap coded (sym q))
       (λ q. z ∙ sym (no (eqb (list_word p c k) i) x (get looks look k) (ne_eqb _ _ q) refl) ∙ t k h (omega (arith, l, q)))
 
-  module _ {fit : Bool} {i : ℕ} {us ls hs ks ss ms look roots cells tests members : List ℕ} (b : Built fit i us ls hs ks ss ms look roots cells tests members)
-      (inside : i < c.types) (room : i < rows) (fitted : fit ≡ true → (k : ℕ) → k ≤ i → fits p c (slot_at p c k) ≡ true) (shape : Shape cells members i)
-      {l : ListFacts} {us' ls' hs' roots' cells' tests' members' : List ℕ}
-      (kept : ListKept p c ss ms look us ls hs roots cells tests members fit i l us' ls' hs' roots' cells' tests' members')
-      {ss' ms' ks' kh kn : List ℕ} (row : RowKept p ss ms ks i l ss' ms' ks' kh kn) {look' : List ℕ} {x : ℕ} (noted : Noted look look' i x) (coding : x ≡ code_at ss' ms' i) where
+  module _ {fit : Bool} {i : ℕ} {q q' : KnownLists} {t t' : TypeTable} {keys keys' : Chains} {look look' : List ℕ} (b : Built fit i q keys.keys t.same t.marks look)
+      (inside : i < c.types) (room : i < rows) (fitted : fit ≡ true → (k : ℕ) → k ≤ i → fits p c (slot_at p c k) ≡ true) (sound : Sound q.trees i)
+      {l : ListFacts} (kept : ListKept p c t look q fit i l q') (row : RowKept p t keys i l t' keys') {x : ℕ} (noted : Noted look look' i x) (coding : x ≡ code_at t'.same t'.marks i) where
     slot_i : kept.slot ≡ slot_at p c i
     slot_i = kept.read
 
     sort_i : kept.sort ≡ sort_at i
     sort_i = kept.sorted ∙ ap (sort_of p c) slot_i
 
-    pub built_more : Built fit (i + 1) us' ls' hs' ks' ss' ms' look' roots' cells' tests' members'
+    pub built_more : Built fit (i + 1) q' keys'.keys t'.same t'.marks look'
     built_more = record {
       users = rw kept.users_set (users_more b.users slot_i);
       right = λ small.
           let done = b.right small in
-          let o = outcome small inside room done b.read fitted shape b.users slot_i sort_i kept.told kept.grown kept.finds in
+          let o = outcome small inside room done b.read fitted sound.shape b.users slot_i sort_i kept.told kept.grown kept.finds in
           let list = o.right in
           let k = key_right small inside room done list row.keyed in
-          let same' : Filled (row_number p c) ss' (i + 1) = rw row.same_set (filled_more done.same room (number_right small inside room done k row.hit row.numbered)) in
-          let marks' : Filled mark ms' (i + 1) = rw row.marks_set (filled_more done.marks room (mark_right small inside room done list row.marked)) in
+          let same' : Filled (row_number p c) t'.same (i + 1) = rw row.same_set (filled_more done.same room (number_right small inside room done k row.row row.hit row.numbered)) in
+          let marks' : Filled mark t'.marks (i + 1) = rw row.marks_set (filled_more done.marks room (mark_right small inside room done list row.marked)) in
           record {
-            lists = rw kept.lists_set (filled_more done.lists room list.number);
-            helds = rw kept.helds_set (filled_more done.helds room list.held);
+            numbers = rw kept.numbers_set (filled_more done.numbers room list.number);
+            helds = rw kept.helds_set (filled_more done.helds room (ap bit list.held));
             keys = rw row.keys_set (filled_more done.keys room k);
             same = same';
             marks = marks';
             typed = typed_more b.read done.typed noted
-                (coding ∙ code_is ss' ms' small room (filled_entry same' (omega (arith, room)) i (omega arith)) (filled_entry marks' (omega (arith, room)) i (omega arith)));
+                (coding ∙ code_is t'.same t'.marks small room (filled_entry same' (omega (arith, room)) i (omega arith)) (filled_entry marks' (omega (arith, room)) i (omega arith)));
             trees = o.trees;
           };
-      size = rw row.same_set (length-set ss i _ ∙ b.size);
-      size_marks = rw row.marks_set (length-set ms i _ ∙ b.size_marks);
+      size = rw row.same_set (length-set t.same i _ ∙ b.size);
+      size_marks = rw row.marks_set (length-set t.marks i _ ∙ b.size_marks);
       rest = rw row.same_set (empty_more _ b.rest);
       rest_marks = rw row.marks_set (empty_more _ b.rest_marks);
       read = record { size = noted.size; word = λ k h. noted.word k ∙ b.read.word k h };
@@ -665,22 +651,22 @@ module _ (p : List ℕ) (c : Counts) where
   pub fit_rows : {n i : ℕ} {fit : Bool} → fit ≡ all (λ k. fits p c (slot_at p c k)) 0 n → i < n → fit ≡ true → (k : ℕ) → k ≤ i → fits p c (slot_at p c k) ≡ true
   fit_rows {n = n} e h t k l = all_each (λ j. fits p c (slot_at p c j)) n (sym e ∙ t) k (omega arith)
 
-  pub built_none : {fit : Bool} {ls hs ks ss ms look : List ℕ} → Clear ls → Clear hs → Clear ks → Clear ss → Clear ms → Read p c look words
-      → Built fit 0 (replicate slots 0) ls hs ks ss ms look (replicate sorts 0) (replicate cells_len 0) (replicate rows 0) (replicate rows 0)
-  built_none l h k s m r = record {
-    users = record {
+  pub built_none : {fit : Bool} {q : KnownLists} {ks ss ms look : List ℕ} → q.users ≡ replicate slots 0 → Clear q.numbers → Clear q.helds → Bare q.trees → Clear ks → Clear ss → Clear ms
+      → Read p c look words → Built fit 0 q ks ss ms look
+  built_none u l h b k s m r = record {
+    users = rw u (record {
       size = length-replicate {A = ℕ} slots 0;
       row = λ t n. absurd (n (zeros_at slots t));
       slot = λ t n. absurd (n (zeros_at slots t));
-    };
+    });
     right = λ small. record {
-      lists = filled_none _ l;
+      numbers = filled_none _ l;
       helds = filled_none _ h;
       keys = filled_none _ k;
       same = filled_none _ s;
       marks = filled_none _ m;
       typed = λ k a b. absurd (omega arith);
-      trees = λ t. forest_none sort_at view_at (λ k. list_number p c k ≡ k);
+      trees = λ t. rw (b.roots_bare, b.cells_bare, b.tests_bare, b.keys_bare) (forest_none sort_at view_at (λ k. list_number p c k ≡ k));
     };
     size = s.size;
     size_marks = m.size;
@@ -690,7 +676,7 @@ module _ (p : List ℕ) (c : Counts) where
   }
 
   -- n rows are done: all of the table, or all that there is room for
-  pub numbers : {fit : Bool} {n : ℕ} {us ls hs ks ss ms look roots cells tests members : List ℕ} → Built fit n us ls hs ks ss ms look roots cells tests members
+  pub numbers : {fit : Bool} {n : ℕ} {q : KnownLists} {ks ss ms look : List ℕ} → Built fit n q ks ss ms look
       → n ≤ c.types → ((k : ℕ) → k < c.types → k < rows → k < n) → Numbers p c ss ms
   numbers b h all = record {
     size = b.size;

@@ -1,11 +1,12 @@
 -- Rows in chains: a row is put in front of its chain, and a search follows one.
 --     links_none, links_more, chained_with   at the start, and with row i
 --     Walk, walk_start, walk_next            no row past j passes
---     walk_found, walk_none                  what the search answers
+--     walk_found                             what the search answers
 -- Assumes nothing.
 use mathlib.Core.Path.{◌≡◌, refl, sym, ap, ◌∙◌}
 use mathlib.Core.List.{List}
 use mathlib.Core.Bool.{Bool, true, false}
+use Rattle.std.specs.Prelude.{Some}
 use Prim.Native.Nat.{ℕ, ◌+◌, ◌-◌, ◌<◌, ◌≤◌}
 use native.Mathlib.Omega.{arith}
 use lib.ListN.{get_or, set, length-set, replicate, length-replicate}
@@ -17,6 +18,7 @@ use Rattle.laws.proofs.Choice.{by_eq, by_test}
 use Rattle.structure.specs.Structure.{rows}
 use Rattle.structure.specs.Table.{entry, has_key, Hit}
 use Rattle.structure.specs.Buckets.{buckets, bucket_of, head_at, Links, Chained}
+use Rattle.structure.specs.declared.buckets.Chains.{Chains}
 use Rattle.structure.proofs.Arrays.{zeros_get, set_here, set_there}
 
 pub bucket_small : (x : ℕ) → bucket_of x < buckets
@@ -35,7 +37,7 @@ links_none n x = record {
   next_past = λ k l h. absurd (omega arith);
 }
 
-pub chained_none : Chained (replicate rows 0) (replicate buckets 0) (replicate rows 0) 0
+pub chained_none : Chained (record { keys = replicate rows 0; heads = replicate buckets 0; nexts = replicate rows 0 }) 0
 chained_none = record { size = length-replicate {A = ℕ} rows 0; links = links_none rows _ }
 
 -- the same of other values that agree below i
@@ -96,15 +98,16 @@ module _ {n : ℕ} {x : ℕ → ℕ} {heads nexts : List ℕ} {i : ℕ} (c : Lin
   pub links_with : {b h : ℕ} → b ≡ bucket_of (x i) → h ≡ head_at heads (bucket_of (x i)) → Links n x (set heads b (i + 1)) (set nexts i h) (i + 1)
   links_with d e = rw (d, e) links_more
 
--- row i of the table with the value x
-module _ {xs heads nexts : List ℕ} {i : ℕ} (c : Chained xs heads nexts i) (room : i < rows) (x : ℕ) where
-  here_xs : entry (set xs i x) i ≡ x
-  here_xs = set_here rows xs i x c.size room
+-- row i of the table with the key x
+module _ {q : Chains} {i : ℕ} (c : Chained q i) (room : i < rows) (x : ℕ) where
+  here_key : entry (set q.keys i x) i ≡ x
+  here_key = set_here rows q.keys i x c.size room
 
-  pub chained_with : {b h : ℕ} → b ≡ bucket_of x → h ≡ head_at heads (bucket_of x) → Chained (set xs i x) (set heads b (i + 1)) (set nexts i h) (i + 1)
+  pub chained_with : {b h : ℕ} → b ≡ bucket_of x → h ≡ head_at q.heads (bucket_of x)
+      → Chained (record { keys = set q.keys i x; heads = set q.heads b (i + 1); nexts = set q.nexts i h }) (i + 1)
   chained_with d e = record {
-    size = length-set xs i x ∙ c.size;
-    links = links_with (links_agree c.links (λ k h. set_there rows xs i x k (λ w. omega arith))) room (rw here_xs d) (rw here_xs e);
+    size = length-set q.keys i x ∙ c.size;
+    links = links_with (links_agree c.links (λ k h. set_there rows q.keys i x k (λ w. omega arith))) room (rw here_key d) (rw here_key e);
   }
 
 -- ---- the search
@@ -128,43 +131,40 @@ module _ {n : ℕ} {test : ℕ → Bool} {x : ℕ → ℕ} {heads nexts : List �
   pub walk_start : Walk test x b i (head_at heads b)
   walk_start = record { high = c.head_low b; past = λ k h a. other k (c.head_past b k s.small h a); same = c.head_same b }
 
-  pub walk_next : {j : ℕ} → Walk test x b i j → 0 < j → test (j - 1) ≡ false → Walk test x b i (get n nexts (j - 1))
-  walk_next {j = j} w p f =
-      let m : j ≡ 0 → ⊥ = λ e. omega arith in
-      let g : j - 1 < i = omega (arith, w.high) in
-      let l : get n nexts (j - 1) ≤ j - 1 = c.next_low (j - 1) g in
-      let e : bucket_of (x (j - 1)) ≡ b = w.same m in
-      record {
-        high = omega arith;
-        past = λ k h a.
-            by_test (leb j k)
-            (λ t. w.past k h (leb-true j k t))
-            (λ t.
-            let u : k < j = leb-false j k t in
-            by_eq k (j - 1) (λ q. rw q f) (λ q. other k (λ z. c.next_past (j - 1) k g a (omega arith) (z ∙ sym e))));
-        same = λ m. c.next_same (j - 1) g m ∙ e;
-      }
+  -- row k, which the walk has come to, does not pass
+  module _ {j : ℕ} (k : ℕ) (w : Walk test x b i j) (p : j ≡ k + 1) where
+    walk_next : test k ≡ false → Walk test x b i (get n nexts k)
+    walk_next f =
+        let m : j ≡ 0 → ⊥ = λ e. omega arith in
+        let y : j - 1 ≡ k = omega arith in
+        let g : k < i = omega (arith, w.high) in
+        let l : get n nexts k ≤ k = c.next_low k g in
+        let e : bucket_of (x k) ≡ b = rw y at (w.same m) in
+        record {
+          high = omega arith;
+          past = λ q h a.
+              by_test (leb j q)
+              (λ t. w.past q h (leb-true j q t))
+              (λ t.
+              let u : q < j = leb-false j q t in
+              by_eq q k (λ z. rw z f) (λ z. other q (λ y. c.next_past k q g a (omega arith) (y ∙ sym e))));
+          same = λ z. c.next_same k g z ∙ e;
+        }
 
-  pub walk_falls : {j : ℕ} → Walk test x b i j → 0 < j → get n nexts (j - 1) < j
-  walk_falls {j = j} w p = let l = c.next_low (j - 1) (omega (arith, w.high)) in omega arith
+    walk_falls : get n nexts k < j
+    walk_falls = let l = c.next_low k (omega (arith, w.high)) in omega arith
 
--- the same from what was read
-module _ {n : ℕ} {test : ℕ → Bool} {x : ℕ → ℕ} {heads nexts : List ℕ} {i b j m : ℕ} (c : Links n x heads nexts i) (s : Sorted test x b) (w : Walk test x b i j)
-    (p : 0 < j) (room : i ≤ n) (e : m ≡ get_or nexts (j - 1) 0) where
-  next_is : m ≡ get n nexts (j - 1)
-  next_is = e ∙ get_in n nexts (j - 1) (omega (arith, w.high))
+    next_is : {m : ℕ} → i ≤ n → m ≡ get_or nexts k 0 → m ≡ get n nexts k
+    next_is room e = e ∙ get_in n nexts k (omega (arith, w.high))
 
-  pub walk_on : test (j - 1) ≡ false → Walk test x b i m
-  walk_on f = rw next_is (walk_next c s w p f)
+    pub walk_on : {m : ℕ} → i ≤ n → m ≡ get_or nexts k 0 → test k ≡ false → Walk test x b i m
+    walk_on room e f = rw (next_is room e) (walk_next f)
 
-  pub walk_less : m < j
-  walk_less = rw next_is (walk_falls c s w p)
+    pub walk_less : {m : ℕ} → i ≤ n → m ≡ get_or nexts k 0 → m < j
+    walk_less room e = rw (next_is room e) walk_falls
 
-pub walk_found : {test : ℕ → Bool} {x : ℕ → ℕ} {b i j : ℕ} → Walk test x b i j → 0 < j → test (j - 1) ≡ true → Hit test i (j - 1)
-walk_found w p t = let h = w.high in record { high = omega arith; some = λ l. t; none = λ l. absurd (omega arith) }
-
-pub walk_none : {test : ℕ → Bool} {x : ℕ → ℕ} {b i j : ℕ} → Walk test x b i j → j ≡ 0 → Hit test i i
-walk_none w e = record { high = omega arith; some = λ l. absurd (omega arith); none = λ l k h. w.past k h (omega arith) }
+pub walk_found : {test : ℕ → Bool} {x : ℕ → ℕ} {b i j k : ℕ} → Walk test x b i j → j ≡ k + 1 → test k ≡ true → Hit test i (Some k)
+walk_found w e t = (omega (arith, w.high, e), t)
 
 pub key_sorted : (keys : List ℕ) (key : ℕ) → Sorted (has_key keys key) (entry keys) (bucket_of key)
 key_sorted keys key = record { small = bucket_small key; sorted = λ k t. ap bucket_of (eqb-true _ _ t) }

@@ -1,13 +1,12 @@
 -- A test of each place of a range, by counting those that fail.
---     counts_none, counts_on, counts_end     the loop's start, a step and its end
+--     counts_on, counts_end     a step of the loop, and its end
 -- Assumes nothing.
 use Prim.Native.Nat.{ℕ, ◌+◌, ◌<◌, ◌≤◌}
-use mathlib.Core.Path.{◌≡◌, refl, sym, ap, ◌∙◌}
+use mathlib.Core.Path.{◌≡◌, sym, ap, ◌∙◌}
 use mathlib.Core.Bool.{Bool, false, not}
 use native.Mathlib.Omega.{arith}
 use lib.Dec.{eqb}
 use borrow.Author.Tests.{eq-eqb, ne_eqb}
-use Rattle.laws.specs.First.{all}
 use Rattle.laws.proofs.Choice.{by_eq}
 use Rattle.laws.proofs.First.{AllLeft, goes, stops, ends}
 
@@ -16,10 +15,6 @@ pub record Counted (test : ℕ → Bool) (m n : ℕ) (whole : Bool) (c : ℕ) : 
   pub few : c ≤ m
   pub none : c ≡ 0 → AllLeft test m n whole
   pub some : (c ≡ 0 → ⊥) → whole ≡ false
-
-module _ (test : ℕ → Bool) (n : ℕ) where
-  pub counts_none : Counted test 0 n (all test 0 n) 0
-  counts_none = record { few = omega arith; none = λ e. record { says = refl }; some = λ o. absurd (o refl) }
 
 module _ {test : ℕ → Bool} {m n : ℕ} {whole : Bool} {c : ℕ} (k : Counted test m n whole c) where
   -- place m fails where x is 1

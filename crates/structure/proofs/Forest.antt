@@ -22,30 +22,16 @@ use Rattle.pack.specs.declared.counts.Counts.{Counts}
 use Rattle.structure.specs.Structure.{rows}
 use Rattle.structure.specs.Lists.{Spot}
 use Rattle.structure.specs.Table.{entry}
-use Rattle.structure.specs.Buckets.{buckets, bucket_of}
-use Rattle.structure.specs.Tree.{cells_len, cell_at, sorts, place_of, own_of, member_key, Step, passes, turns, Leads, here, more, New, Walked, Says, old, fork, Below, ended, missed, first, below, Shape, RootsLow, Grown}
+use Rattle.structure.specs.Buckets.{buckets, bucket_of, Chained}
+use Rattle.structure.specs.Tree.{cells_len, cell_at, sorts, place_of, own_of, member_key, Step, passes, turns, Leads, here, more, New, Walked, old, fork, ended, missed, first, below, Shape, RootsLow, Sound, Bare, Storable, roots_with, cells_with, key_in, Grown}
 use Rattle.structure.specs.Facts.{Finds, used, walked, searched}
 use Rattle.structure.specs.declared.tree.Stop.{Stop}
 use Rattle.structure.specs.declared.finding.Found.{Found}
+use Rattle.structure.specs.declared.finding.Found.TheVariants.{Same, Loose, Root, Member, Fork}
+use Rattle.structure.specs.declared.facts.KnownLists.{KnownLists}
+use Rattle.structure.specs.declared.tree.ListTrees.{ListTrees}
 use Rattle.structure.proofs.Arrays.{zeros_get, set_here, set_there}
 use Rattle.structure.proofs.Walking.{key_fork, leads_on}
-
--- ---- what is found fits into the arrays
-
-says_none : {r : Found} {row key test root : ℕ} → Says r row key 0 test root → r.cell ≤ cells_len
-says_none s = omega (arith, s.cell_is)
-
-below_most : {p look cells tests keys : List ℕ} {i s sort k : ℕ} {r : Found} → Below p look cells tests keys i s sort k r → r.cell ≤ cells_len
-below_most (ended z w e (old q says)) = says_none says
-below_most (ended z w e (fork o n q b says)) = omega (arith, says.cell_is, w.inside)
-below_most (missed z g w e says) = says_none says
-
-pub cell_most : {p : List ℕ} {c : Counts} {same look users roots cells tests keys : List ℕ} {fit : Bool} {i s sort : ℕ} {r : Found}
-    → Finds p c same look users roots cells tests keys fit i s sort r → r.cell ≤ cells_len
-cell_most (used k e says) = says_none says
-cell_most (walked t (first e says)) = says_none says
-cell_most (walked t (below k e b)) = below_most b
-cell_most (searched k t h says) = says_none says
 
 key_parts : (g x h y : ℕ) → g < rows → h < rows → member_key g x ≡ member_key h y → (g ≡ h) × (x ≡ y)
 unfolding member_key
@@ -514,11 +500,6 @@ module _ (sort : ℕ → ℕ) (view : ℕ → ℕ → ℕ) (Kept : ℕ → Type 
 -- ---- the shape of the arrays
 
 -- what is found can be stored
-pub record Storable (r : Found) (i : ℕ) : Type 0 where
-  pub cell : r.cell ≤ cells_len
-  pub after : (r.cell ≡ 0 → ⊥) → (r.cell - 1) / 2 < i
-  pub key : bucket_of r.key ≤ i
-
 no_key : bucket_of 0 ≡ 0
 unfolding bucket_of
 no_key = refl
@@ -526,76 +507,88 @@ no_key = refl
 key_low : (g x : ℕ) {key i : ℕ} → key ≡ member_key g x → g < buckets → g ≤ i → bucket_of key ≤ i
 key_low g x e h l = rw (e, key_fork g x h) l
 
-says_row : {r : Found} {row i test root : ℕ} → Says r row 0 0 test root → Storable r i
-says_row {r = r} s =
-    let e = s.cell_is in
-    record { cell = omega (arith, e); after = λ n. absurd (n e); key = rw (s.key_is, no_key) (omega arith) }
+same_storable : {r : Found} {k : ℕ} (i : ℕ) → r ≡ Same k → Storable r i
+same_storable i e = rw e tt
 
-pub storable : {p : List ℕ} {c : Counts} {same look users roots cells tests keys : List ℕ} {fit : Bool} {i s sort : ℕ} {r : Found}
-    → Shape cells keys i → i < rows → Finds p c same look users roots cells tests keys fit i s sort r → Storable r i
-storable h room (used k e says) = says_row says
-storable h room (walked t (first e says)) = says_row says
-storable h room (walked t (below k e (ended z w x (old q says)))) = says_row says
-storable {r = r} h room (walked t (below k e (ended z w x (fork o n q b says)))) =
-    let y = says.cell_is in
-    let u : r.cell - 1 ≡ z.cell = omega (arith, y) in
-    record { cell = omega (arith, y, w.inside); after = λ m. rw u w.low; key = key_low _ _ says.key_is (omega (arith, room)) (omega arith) }
-storable h room (walked t (below k e (missed z g w x says))) =
-    let y = says.cell_is in
-    record { cell = omega (arith, y); after = λ n. absurd (n y); key = key_low _ _ says.key_is (omega (arith, room, h.below z.cell, x)) (omega (arith, h.below z.cell, x)) }
-storable h room (searched k t q says) = says_row says
+pub storable : {p : List ℕ} {c : Counts} {same look : List ℕ} {q : KnownLists} {fit : Bool} {i s sort : ℕ} (r : Found)
+    → Sound q.trees i → i < rows → Finds p c same look q fit i s sort r → Storable r i
+storable r h room (used k e says) = same_storable _ says
+storable r h room (walked t (first e says)) = rw says tt
+storable r h room (walked t (below k e (ended z w x (old q says)))) = same_storable _ says
+storable r h room (walked t (below k e (ended z w x (fork o q b says)))) = rw says (w.inside, w.low, key_low _ _ refl (omega (arith, room)) (omega arith))
+storable r h room (walked t (below k e (missed z g w x says))) = rw says (key_low _ _ refl (omega (arith, room, h.shape.below z.cell, x)) (omega (arith, h.shape.below z.cell, x)))
+storable (Same row) h room (searched t q u) = tt
+storable Loose h room (searched t q u) = tt
+storable Root h room (searched t q u) = absurd u
+storable (Member key) h room (searched t q u) = absurd u
+storable (Fork cell test key) h room (searched t q u) = absurd u
 
-module _ {roots cells tests keys roots' cells' tests' keys' : List ℕ} {i sort : ℕ} {r : Found} (g : Grown roots cells tests keys i sort r roots' cells' tests' keys') (room : i < rows) where
-  pub roots_low : RootsLow roots i → RootsLow roots' (i + 1)
-  roots_low l =
-      by_eq r.root 0
-      (λ e. rw (g.roots_set ∙ sym (yes _ _ _ (eq-eqb r.root 0 e) refl)) (record { size = l.size; low = λ b. omega (arith, l.low b) }))
-      (λ e.
-      rw (g.roots_set ∙ sym (no _ _ _ (ne_eqb r.root 0 e) refl))
-      (record {
-        size = length-set roots (sort % sorts) (i + 1) ∙ l.size;
-        low = λ b.
-            by_eq b (sort % sorts)
-            (λ q. rw (q, set_here sorts roots (sort % sorts) (i + 1) l.size (omega arith)) (omega arith))
-            (λ q. rw (set_there sorts roots (sort % sorts) (i + 1) b q) (omega (arith, l.low b)));
-      }))
+-- ---- the trees stay sound
 
-  module _ (h : Shape cells keys i) (size : length keys ≡ rows) (s : Storable r i) where
-    low_keys : (l : ℕ) → l < i + 1 → bucket_of (entry keys' l) ≤ l
-    low_keys l b =
-        rw g.keys_set
-        (by_eq l i
-        (λ q. rw (q, set_here rows keys i r.key size room) s.key)
-        (λ q. rw (set_there rows keys i r.key l q) (h.low l (omega (arith, b, q)))))
+low_same : {roots : List ℕ} {i : ℕ} → RootsLow roots i → RootsLow roots (i + 1)
+low_same l = record { size = l.size; low = λ b. omega (arith, l.low b) }
 
-    pub shape_grown : Shape cells' keys' (i + 1)
-    shape_grown =
-        by_eq r.cell 0
-        (λ e.
-        rw (g.cells_set ∙ sym (yes _ _ _ (eq-eqb r.cell 0 e) refl))
-        (record { small = h.small; most = omega (arith, room); low = low_keys; below = λ d. omega (arith, h.below d) }))
-        (λ e.
-        let d = r.cell - 1 in
-        let a = s.after e in
-        let there : (x : ℕ) → (x ≡ d → ⊥) → cell_at (set cells d (i + 1)) x ≡ cell_at cells x = λ x n. set_there cells_len cells d (i + 1) x n in
-        let at : cell_at (set cells d (i + 1)) d ≡ i + 1 = set_here cells_len cells d (i + 1) h.small.size (omega (arith, s.cell, e)) in
-        let below : (x : ℕ) → cell_at (set cells d (i + 1)) x ≤ i + 1 = λ x. by_eq x d (λ q. rw (q, at) (omega arith)) (λ q. rw (there x q) (omega (arith, h.below x))) in
-        rw (g.cells_set ∙ sym (no _ _ _ (ne_eqb r.cell 0 e) refl))
-        (record {
-          small = record {
-            size = length-set cells d (i + 1) ∙ h.small.size;
-            high = λ x. omega (arith, below x, room);
-            rise = λ x y l q.
-                by_eq x d
-                (λ w. let z = sym at ∙ rw w at q in rw w (omega (arith, z, a)))
-                (λ w. h.small.rise x y l (sym (there x w) ∙ q));
-          };
-          most = omega (arith, room);
-          low = low_keys;
-          below = below;
-        }))
+roots_low : (r : Found) (sort : ℕ) {roots : List ℕ} {i : ℕ} → RootsLow roots i → RootsLow (roots_with r roots sort i) (i + 1)
+roots_low (Same row) sort l = low_same l
+roots_low Loose sort l = low_same l
+roots_low Root sort {roots = roots} {i = i} l = record {
+  size = length-set roots (sort % sorts) (i + 1) ∙ l.size;
+  low = λ b.
+      by_eq b (sort % sorts)
+      (λ q. rw (q, set_here sorts roots (sort % sorts) (i + 1) l.size (omega arith)) (omega arith))
+      (λ q. rw (set_there sorts roots (sort % sorts) (i + 1) b q) (omega (arith, l.low b)));
+}
+roots_low (Member k) sort l = low_same l
+roots_low (Fork cell test k) sort l = low_same l
 
-pub shape_none : Shape (replicate cells_len 0) (replicate rows 0) 0
+module _ {cells keys : List ℕ} {i : ℕ} (room : i < rows) (size : length keys ≡ rows) (h : Shape cells keys i) where
+  low_keys : (key : ℕ) → bucket_of key ≤ i → (l : ℕ) → l < i + 1 → bucket_of (entry (set keys i key) l) ≤ l
+  low_keys key b l a =
+      by_eq l i
+      (λ q. rw (q, set_here rows keys i key size room) b)
+      (λ q. rw (set_there rows keys i key l q) (h.low l (omega (arith, a, q))))
+
+  shape_same : (key : ℕ) → bucket_of key ≤ i → Shape cells (set keys i key) (i + 1)
+  shape_same key b = record { small = h.small; most = omega (arith, room); low = low_keys key b; below = λ d. omega (arith, h.below d) }
+
+  shape_loose : Shape cells (set keys i 0) (i + 1)
+  shape_loose = shape_same 0 (rw no_key (omega arith))
+
+  shape_fork : (d key : ℕ) → d < cells_len → d / 2 < i → bucket_of key ≤ i → Shape (set cells d (i + 1)) (set keys i key) (i + 1)
+  shape_fork d key inside a b =
+      let there : (x : ℕ) → (x ≡ d → ⊥) → cell_at (set cells d (i + 1)) x ≡ cell_at cells x = λ x n. set_there cells_len cells d (i + 1) x n in
+      let at : cell_at (set cells d (i + 1)) d ≡ i + 1 = set_here cells_len cells d (i + 1) h.small.size inside in
+      let below : (x : ℕ) → cell_at (set cells d (i + 1)) x ≤ i + 1 = λ x. by_eq x d (λ q. rw (q, at) (omega arith)) (λ q. rw (there x q) (omega (arith, h.below x))) in
+      record {
+        small = record {
+          size = length-set cells d (i + 1) ∙ h.small.size;
+          high = λ x. omega (arith, below x, room);
+          rise = λ x y l q.
+              by_eq x d
+              (λ w. let z = sym at ∙ rw w at q in rw w (omega (arith, z, a)))
+              (λ w. h.small.rise x y l (sym (there x w) ∙ q));
+        };
+        most = omega (arith, room);
+        low = low_keys key b;
+        below = below;
+      }
+
+  shape_grown : (r : Found) → Storable r i → Shape (cells_with r cells i) (set keys i (key_in r)) (i + 1)
+  shape_grown (Same row) s = shape_loose
+  shape_grown Loose s = shape_loose
+  shape_grown Root s = shape_loose
+  shape_grown (Member key) s = shape_same key s
+  shape_grown (Fork cell test key) s = shape_fork cell key s.0 s.1 s.2
+
+-- what is stored leaves the trees sound
+pub sound_grown : {t t' : ListTrees} {i sort : ℕ} {r : Found} → i < rows → Sound t i → Storable r i → Grown t i sort r t' → Chained t'.members (i + 1)
+    → Grown t i sort r t' × Sound t' (i + 1)
+sound_grown {sort = sort} {r = r} room h s g m = (
+  g,
+  record { roots = rw g.roots_set (roots_low r sort h.roots); shape = rw (g.cells_set, g.keys_set) (shape_grown room h.members.size h.shape r s); members = m },
+)
+
+shape_none : Shape (replicate cells_len 0) (replicate rows 0) 0
 shape_none = record {
   small = record {
     size = length-replicate {A = ℕ} cells_len 0;
@@ -607,5 +600,8 @@ shape_none = record {
   below = λ d. omega (arith, zeros_get cells_len d);
 }
 
-pub roots_none : RootsLow (replicate sorts 0) 0
+roots_none : RootsLow (replicate sorts 0) 0
 roots_none = record { size = length-replicate {A = ℕ} sorts 0; low = λ b. omega (arith, zeros_get sorts b) }
+
+pub sound_bare : {t : ListTrees} → Bare t → Chained t.members 0 → Bare t × Sound t 0
+sound_bare b m = (b, record { roots = rw b.roots_bare roots_none; shape = rw (b.cells_bare, b.keys_bare) shape_none; members = m })

@@ -2,7 +2,6 @@ pub mod Arrays
 pub mod Pairs
 pub mod Flat
 pub mod Reading
-pub mod Joins
 pub mod Chaining
 pub mod Walking
 pub mod Spots

@@ -67,58 +67,62 @@ module _ (look : List ℕ) {heads nexts : List ℕ} (i x : ℕ) (links : Links w
   pub noting_start : i < rows → length look ≡ looks → {j : ℕ} → j ≡ get_or heads i 0 → Noting look look i x j
   noting_start h e q = rw (q ∙ get_in buckets heads i (omega arith)) (start h e)
 
-  module _ {now : List ℕ} {j : ℕ} (n : Noting look now i x j) (some : 0 < j) where
-    inside : j - 1 < words
+  -- the link leads to word w
+  module _ {now : List ℕ} {j : ℕ} (w : ℕ) (n : Noting look now i x j) (some : j ≡ w + 1) where
+    inside : w < words
     inside = omega (arith, n.high)
 
-    low : get words nexts (j - 1) ≤ j - 1
-    low = links.next_low (j - 1) inside
+    near : bucket_of (word_in look w) ≡ bucket_of i
+    near = let e : j - 1 ≡ w = omega arith in rw e at (n.near (λ z. omega arith))
+
+    low : get words nexts w ≤ w
+    low = links.next_low w inside
 
     -- the words between two links
-    between : (k : ℕ) → get words nexts (j - 1) ≤ k → k < j - 1 → get looks now k ≡ pick (eqb (word_in look k) i) x (get looks look k)
-    between k a b = n.todo k (omega arith) ∙ other k (λ q. links.next_past (j - 1) k inside a b (q ∙ sym (n.near (λ z. omega arith))))
+    between : (k : ℕ) → get words nexts w ≤ k → k < w → get looks now k ≡ pick (eqb (word_in look k) i) x (get looks look k)
+    between k a b = n.todo k (omega arith) ∙ other k (λ q. links.next_past w k inside a b (q ∙ sym near))
 
-    next_is : {m : ℕ} → m ≡ get_or nexts (j - 1) 0 → m ≡ get words nexts (j - 1)
-    next_is q = q ∙ get_in words nexts (j - 1) inside
+    next_is : {m : ℕ} → m ≡ get_or nexts w 0 → m ≡ get words nexts w
+    next_is q = q ∙ get_in words nexts w inside
 
-    pub note_less : {m : ℕ} → m ≡ get_or nexts (j - 1) 0 → m < j
+    pub note_less : {m : ℕ} → m ≡ get_or nexts w 0 → m < j
     note_less q = omega (arith, low, next_is q)
 
-    next_near : (get words nexts (j - 1) ≡ 0 → ⊥) → bucket_of (word_in look (get words nexts (j - 1) - 1)) ≡ bucket_of i
-    next_near m = links.next_same (j - 1) inside m ∙ n.near (λ z. omega arith)
+    next_near : (get words nexts w ≡ 0 → ⊥) → bucket_of (word_in look (get words nexts w - 1)) ≡ bucket_of i
+    next_near m = links.next_same w inside m ∙ near
 
-    named : eqb (word_in now (j - 1)) i ≡ true → Noting look (set now (j - 1) x) i x (get words nexts (j - 1))
+    named : eqb (word_in now w) i ≡ true → Noting look (set now w x) i x (get words nexts w)
     named t = record {
-      size = length-set now (j - 1) x ∙ n.size;
-      word = λ k. set_there looks now (j - 1) x (words + k) (λ z. omega (arith, inside)) ∙ n.word k;
+      size = length-set now w x ∙ n.size;
+      word = λ k. set_there looks now w x (words + k) (λ z. omega (arith, inside)) ∙ n.word k;
       done = λ k l a.
-          by_eq k (j - 1)
-          (λ q. rw q (set_here looks now (j - 1) x n.size (omega (arith, inside)) ∙ yes (eqb (word_in look (j - 1)) i) x (get looks look (j - 1)) (rw (← n.word (j - 1)) t) refl))
-          (λ q. set_there looks now (j - 1) x k q ∙ by_test (leb j k) (λ u. n.done k l (leb-true j k u)) (λ u. between k a (omega (arith, leb-false j k u, q))));
-      todo = λ k l. set_there looks now (j - 1) x k (λ q. omega (arith, low)) ∙ n.todo k (omega (arith, low));
+          by_eq k w
+          (λ q. rw q (set_here looks now w x n.size (omega (arith, inside)) ∙ yes (eqb (word_in look w) i) x (get looks look w) (rw (← n.word w) t) refl))
+          (λ q. set_there looks now w x k q ∙ by_test (leb j k) (λ u. n.done k l (leb-true j k u)) (λ u. between k a (omega (arith, leb-false j k u, q))));
+      todo = λ k l. set_there looks now w x k (λ q. omega (arith, low)) ∙ n.todo k (omega (arith, low));
       high = omega (arith, low, inside);
       near = next_near;
     }
 
-    unnamed : eqb (word_in now (j - 1)) i ≡ false → Noting look now i x (get words nexts (j - 1))
+    unnamed : eqb (word_in now w) i ≡ false → Noting look now i x (get words nexts w)
     unnamed t = record {
       size = n.size;
       word = n.word;
       done = λ k l a.
-          by_eq k (j - 1)
-          (λ q. rw q (n.todo (j - 1) (omega arith) ∙ no (eqb (word_in look (j - 1)) i) x (get looks look (j - 1)) (rw (← n.word (j - 1)) t) refl))
+          by_eq k w
+          (λ q. rw q (n.todo w (omega arith) ∙ no (eqb (word_in look w) i) x (get looks look w) (rw (← n.word w) t) refl))
           (λ q. by_test (leb j k) (λ u. n.done k l (leb-true j k u)) (λ u. between k a (omega (arith, leb-false j k u, q))));
       todo = λ k l. n.todo k (omega (arith, low));
       high = omega (arith, low, inside);
       near = next_near;
     }
 
-    pub noting_next : {after : List ℕ} {m : ℕ} → after ≡ pick (eqb (word_in now (j - 1)) i) (set now (j - 1) x) now → m ≡ get_or nexts (j - 1) 0 → Noting look after i x m
-    noting_next e w =
-        let q = next_is w in
-        by_test (eqb (word_in now (j - 1)) i)
-        (λ t. rw (e ∙ sym (yes (eqb (word_in now (j - 1)) i) (set now (j - 1) x) now t refl), q) (named t))
-        (λ t. rw (e ∙ sym (no (eqb (word_in now (j - 1)) i) (set now (j - 1) x) now t refl), q) (unnamed t))
+    pub noting_next : {after : List ℕ} {m : ℕ} → after ≡ pick (eqb (word_in now w) i) (set now w x) now → m ≡ get_or nexts w 0 → Noting look after i x m
+    noting_next e u =
+        let q = next_is u in
+        by_test (eqb (word_in now w) i)
+        (λ t. rw (e ∙ sym (yes (eqb (word_in now w) i) (set now w x) now t refl), q) (named t))
+        (λ t. rw (e ∙ sym (no (eqb (word_in now w) i) (set now w x) now t refl), q) (unnamed t))
 
 pub noted : {look now : List ℕ} {i x j : ℕ} → Noting look now i x j → j ≡ 0 → Noted look now i x
 noted n e = record { size = n.size; word = n.word; type = λ k h. n.done k h (omega arith) }

@@ -4,6 +4,7 @@ use Rattle.std.specs.Prelude.{◌≡◌, List, ℕ, ◌-◌, ◌%◌, ◌<◌, �
 use Rattle.laws.specs.Bounded.{get}
 use Rattle.structure.specs.Structure.{rows}
 use Rattle.structure.specs.Table.{entry}
+use Rattle.structure.specs.declared.buckets.Chains.{Chains}
 
 -- a prime
 abbrev pub buckets : ℕ
@@ -26,7 +27,7 @@ pub record Links (n : ℕ) (x : ℕ → ℕ) (heads nexts : List ℕ) (i : ℕ) 
   pub next_same : (k : ℕ) → k < i → (get n nexts k ≡ 0 → ⊥) → bucket_of (x (get n nexts k - 1)) ≡ bucket_of (x k)
   pub next_past : (k l : ℕ) → k < i → get n nexts k ≤ l → l < k → bucket_of (x l) ≡ bucket_of (x k) → ⊥
 
--- rows of the table, whose values are in xs
-pub record Chained (xs heads nexts : List ℕ) (i : ℕ) : Type 0 where
-  pub size : length xs ≡ rows
-  pub links : Links rows (entry xs) heads nexts i
+-- rows of the table, each with its key
+pub record Chained (c : Chains) (i : ℕ) : Type 0 where
+  pub size : length c.keys ≡ rows
+  pub links : Links rows (entry c.keys) c.heads c.nexts i

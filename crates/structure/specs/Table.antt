@@ -1,7 +1,7 @@
 -- How the table of structures is built: what the functions below `number_rows` answer. Rows are numbered from the smallest up, so the
 -- numbers of a row's parts are there when it is reached: f gives them. The lists of rows are numbered apart from the rows, by the first
 -- row whose list looks the same; then a row is its kind, its number (or what it returns) and its list's number, which make one key.
-use Rattle.std.specs.Prelude.{◌≡◌, List, Bool, true, false, not, ◌&&◌, ◌||◌, ℕ, ◌+◌, ◌*◌, ◌%◌, ◌<◌, ◌≤◌, eqb, length, get_or}
+use Rattle.std.specs.Prelude.{◌≡◌, List, Bool, true, false, not, ◌&&◌, ◌||◌, ℕ, ◌+◌, ◌*◌, ◌%◌, ◌<◌, ◌≤◌, eqb, length, get_or, Option, None, Some, MatchOption}
 use Rattle.laws.specs.Choice.{pick}
 use Rattle.laws.specs.First.{all}
 use Rattle.laws.specs.Lists.{bit}
@@ -41,8 +41,8 @@ unfoldable pub key_of : ℕ → ℕ → ℕ → ℕ
 key_of kind first list = (kind * numbers + first % numbers) * rows + list % rows
 
 -- a row is a variable's, returns a marked one, or its list has one
-unfoldable pub mark_of : (ℕ → ℕ) → TypeRow → ℕ → ℕ
-mark_of f r held = bit (is_var_kind r.kind || (eqb r.kind 6 && not (eqb (f r.a) 0)) || not (eqb held 0))
+unfoldable pub mark_of : (ℕ → ℕ) → TypeRow → Bool → ℕ
+mark_of f r held = bit (is_var_kind r.kind || (eqb r.kind 6 && not (eqb (f r.a) 0)) || held)
 
 -- what is known of type k: its number and its mark as one
 unfoldable pub code_at : List ℕ → List ℕ → ℕ → ℕ
@@ -52,11 +52,18 @@ code_at same marks k = 2 * (entry same k % numbers) + entry marks k % 2
 abbrev pub has_key : List ℕ → ℕ → ℕ → Bool
 has_key keys key k = eqb (entry keys k) key
 
--- the search for a row below i: r is one that passes, or none does and r is i
-pub record Hit (test : ℕ → Bool) (i r : ℕ) : Type 0 where
-  pub high : r ≤ i
-  pub some : r < i → test r ≡ true
-  pub none : i ≤ r → (k : ℕ) → k < i → test k ≡ false
+-- a link holds one more than a row, or 0 where it leads to none
+abbrev pub Link : ℕ → Option ℕ → Type 0
+Link x r = MatchOption r (x ≡ 0) (λ k. x ≡ k + 1)
+
+-- the search for a row below i: one that passes, or none does
+abbrev pub Hit : (ℕ → Bool) → ℕ → Option ℕ → Type 0
+Hit test i r = MatchOption r ((k : ℕ) → k < i → test k ≡ false) (λ k. (k < i) × (test k ≡ true))
+
+-- what an array has for the row that a search found, or i where it found none
+abbrev pub entry_or : List ℕ → Option ℕ → ℕ → ℕ
+entry_or xs None i = i
+entry_or xs (Some k) i = entry xs k
 
 -- the table: each row's smallest equal row, and whether it holds a variable
 pub record Numbers (p : List ℕ) (c : Counts) (same marks : List ℕ) : Type 0 where

@@ -6,17 +6,18 @@
 -- A list walks from the root: where it has the row's own value it passes on to the next fork; where it has a member's it turns to that
 -- member; where it has neither it is new. Where no fork is left it is compared with the row's list. So the walk goes by what the list
 -- looks like alone, and the walk of each list that stands in the tree ends at its own row.
-use Rattle.std.specs.Prelude.{◌≡◌, List, Bool, true, false, ℕ, ◌+◌, ◌-◌, ◌*◌, ◌/◌, ◌%◌, ◌<◌, ◌≤◌, eqb, length, set}
-use Rattle.laws.specs.Choice.{pick}
+use Rattle.std.specs.Prelude.{◌≡◌, List, ℕ, ◌+◌, ◌*◌, ◌/◌, ◌%◌, ◌<◌, ◌≤◌, length, replicate, set, Option, None, Some, MatchOption}
 use Rattle.laws.specs.Bounded.{get}
 use Rattle.pack.specs.Rows.{type_row}
 use Rattle.structure.specs.Structure.{rows}
 use Rattle.structure.specs.Lists.{words, slot_of, Within, Spot}
 use Rattle.structure.specs.Table.{entry}
-use Rattle.structure.specs.Buckets.{buckets, bucket_of}
-use Rattle.structure.specs.Words.{looks, look_at}
+use Rattle.structure.specs.Buckets.{buckets, bucket_of, Chained}
+use Rattle.structure.specs.Words.{look_at, SameWord}
 use Rattle.structure.specs.declared.finding.Found.{Found}
+use Rattle.structure.specs.declared.finding.Found.TheVariants.{Same, Loose, Root, Member, Fork}
 use Rattle.structure.specs.declared.tree.Stop.{Stop}
+use Rattle.structure.specs.declared.tree.ListTrees.{ListTrees}
 
 abbrev pub cells_len : ℕ
 cells_len = 4096
@@ -71,11 +72,10 @@ pub record Shape (cells keys : List ℕ) (i : ℕ) : Type 0 where
   pub low : (l : ℕ) → l < i → bucket_of (entry keys l) ≤ l
   pub below : (d : ℕ) → cell_at cells d ≤ i
 
--- whether the list has the own value at cell d
-pub record Passing (v : ℕ → ℕ) (cells tests : List ℕ) (d : ℕ) (r : Bool) : Type 0 where
-  pub some : r ≡ true → cell_at cells d ≡ 0 → ⊥
-  pub own : r ≡ true → v (place_of tests (cell_at cells d - 1)) ≡ own_of tests (cell_at cells d - 1)
-  pub other : r ≡ false → (g : ℕ) → cell_at cells d ≡ g + 1 → v (place_of tests g) ≡ own_of tests g → ⊥
+-- the fork at cell d, if there is one and the list has the row's own value there
+abbrev pub Passing : (ℕ → ℕ) → List ℕ → List ℕ → ℕ → Option ℕ → Type 0
+Passing v cells tests d r =
+    MatchOption r ((g : ℕ) → cell_at cells d ≡ g + 1 → v (place_of tests g) ≡ own_of tests g → ⊥) (λ g. (cell_at cells d ≡ g + 1) × (v (place_of tests g) ≡ own_of tests g))
 
 -- passed on from cell d to e
 pub record Passed (v : ℕ → ℕ) (cells tests : List ℕ) (d e : ℕ) : Type 0 where
@@ -85,12 +85,12 @@ pub record Passed (v : ℕ → ℕ) (cells tests : List ℕ) (d e : ℕ) : Type 
   pub top : (i : ℕ) → ((x : ℕ) → cell_at cells x ≤ i) → d / 2 < i → e / 2 < i
   pub other : (g : ℕ) → cell_at cells e ≡ g + 1 → v (place_of tests g) ≡ own_of tests g → ⊥
 
--- the member to turn to at cell d, or i
-pub record Turned (v : ℕ → ℕ) (cells tests keys : List ℕ) (i d l : ℕ) : Type 0 where
-  pub high : l ≤ i
-  pub some : l < i → cell_at cells d ≡ 0 → ⊥
-  pub found : l < i → (g : ℕ) → cell_at cells d ≡ g + 1 → entry keys l ≡ member_key g (v (place_of tests g))
-  pub none : i ≤ l → (g : ℕ) → cell_at cells d ≡ g + 1 → (k : ℕ) → k < i → entry keys k ≡ member_key g (v (place_of tests g)) → ⊥
+-- the member to turn to at cell d
+abbrev pub Turned : (ℕ → ℕ) → List ℕ → List ℕ → List ℕ → ℕ → ℕ → Option ℕ → Type 0
+Turned v cells tests keys i d r =
+    MatchOption r
+    ((g : ℕ) → cell_at cells d ≡ g + 1 → (k : ℕ) → k < i → entry keys k ≡ member_key g (v (place_of tests g)) → ⊥)
+    (λ l. (l < i) × ((g : ℕ) × (cell_at cells d ≡ g + 1) × (entry keys l ≡ member_key g (v (place_of tests g)))))
 
 -- the walk from row k on ends at cell d of row l
 pub record Walked (v : ℕ → ℕ) (cells tests keys : List ℕ) (i k : ℕ) (r : Stop) : Type 0 where
@@ -100,54 +100,94 @@ pub record Walked (v : ℕ → ℕ) (cells tests keys : List ℕ) (i k : ℕ) (r
   pub low : r.cell / 2 < i
   pub ends : (cell_at cells r.cell ≡ 0 → ⊥) → (g : ℕ) → cell_at cells r.cell ≡ g + 1 → New v cells tests keys i r.cell g
 
--- two lists of one sort that start at words a and b: 0 where they look the same, else a place where they differ
-pub record Apart (look : List ℕ) (a b sort o : ℕ) : Type 0 where
-  pub small : o < 2 * words
-  pub same : o ≡ 0 → (q : ℕ) → Spot sort q → get looks look (a + q) ≡ get looks look (b + q)
-  pub place : (o ≡ 0 → ⊥) → Spot sort o
-  pub other : (o ≡ 0 → ⊥) → get looks look (a + o) ≡ get looks look (b + o) → ⊥
+-- two lists of one sort that start at words a and b: a place where they differ, or none where they look the same
+pub record Apart (look : List ℕ) (a b sort : ℕ) (r : Option ℕ) : Type 0 where
+  pub told : MatchOption r ((q : ℕ) → Spot sort q → SameWord look (a + q) (b + q)) (λ o. (o < 2 * words) × Spot sort o × (SameWord look (a + o) (b + o) → ⊥))
 
-pub record Compared (look : List ℕ) (s t sort o : ℕ) : Type 0 where
-  pub small : o < 2 * words
-  pub empty : sort ≡ 0 → o ≡ 0
-  pub apart : Within s sort → Within t sort → Apart look (s / 2) (t / 2) sort o
-
-pub record Says (r : Found) (row key cell test root : ℕ) : Type 0 where
-  pub row_is : r.row ≡ row
-  pub key_is : r.key ≡ key
-  pub cell_is : r.cell ≡ cell
-  pub test_is : r.test ≡ test
-  pub root_is : r.root ≡ root
+pub record Compared (look : List ℕ) (s t sort : ℕ) (r : Option ℕ) : Type 0 where
+  pub small : (o : ℕ) → r ≡ Some o → o < 2 * words
+  pub empty : sort ≡ 0 → r ≡ None
+  pub apart : Within s sort → Within t sort → Apart look (s / 2) (t / 2) sort r
 
 -- at the end of a walk the list is that of the row, or it is the member of a new fork there
 pub data Ended (p look : List ℕ) (i s sort cell row : ℕ) (r : Found) : Type 0 where
-  old : Compared look s (slot_of (type_row p row)) sort 0 → Says r row 0 0 0 0 → Ended p look i s sort cell row r
-  fork : (o : ℕ) → (o ≡ 0 → ⊥) → Compared look s (slot_of (type_row p row)) sort o → look_at look (slot_of (type_row p row)) o < 65536
-      → Says r i (member_key i (look_at look s o)) (cell + 1) (o * 65536 + look_at look (slot_of (type_row p row)) o) 0 → Ended p look i s sort cell row r
+  old : Compared look s (slot_of (type_row p row)) sort None → r ≡ Same row → Ended p look i s sort cell row r
+  fork : (o : ℕ) → Compared look s (slot_of (type_row p row)) sort (Some o) → look_at look (slot_of (type_row p row)) o < 65536
+      → r ≡ Fork cell (o * 65536 + look_at look (slot_of (type_row p row)) o) (member_key i (look_at look s o)) → Ended p look i s sort cell row r
 
 -- at a fork it is a new member
-abbrev pub Missed : List ℕ → List ℕ → ℕ → ℕ → ℕ → Found → Type 0
-Missed look tests i s g r = Says r i (member_key g (look_at look s (place_of tests g))) 0 0 0
+abbrev pub Missed : List ℕ → List ℕ → ℕ → ℕ → Found → Type 0
+Missed look tests s g r = r ≡ Member (member_key g (look_at look s (place_of tests g)))
 
--- What the walk of the list at s, which row i has, finds from the root k on: a row whose list looks the same, or i and where it is to stand.
-pub data Below (p look cells tests keys : List ℕ) (i s sort k : ℕ) (r : Found) : Type 0 where
-  ended : (z : Stop) → Walked (look_at look s) cells tests keys i k z → cell_at cells z.cell ≡ 0 → Ended p look i s sort z.cell z.row r
-      → Below p look cells tests keys i s sort k r
-  missed : (z : Stop) (g : ℕ) → Walked (look_at look s) cells tests keys i k z → cell_at cells z.cell ≡ g + 1 → Missed look tests i s g r
-      → Below p look cells tests keys i s sort k r
+-- What the walk of the list at s, which row i has, finds from the root k on: a row whose list looks the same, or where it is to stand.
+pub data Below (p look : List ℕ) (t : ListTrees) (i s sort k : ℕ) (r : Found) : Type 0 where
+  ended : (z : Stop) → Walked (look_at look s) t.cells t.tests t.members.keys i k z → cell_at t.cells z.cell ≡ 0 → Ended p look i s sort z.cell z.row r
+      → Below p look t i s sort k r
+  missed : (z : Stop) (g : ℕ) → Walked (look_at look s) t.cells t.tests t.members.keys i k z → cell_at t.cells z.cell ≡ g + 1 → Missed look t.tests s g r
+      → Below p look t i s sort k r
 
 -- the first list of its sort is the root
-pub data Finding (p look roots cells tests keys : List ℕ) (i s sort : ℕ) (r : Found) : Type 0 where
-  first : root_at roots sort ≡ 0 → Says r i 0 0 0 1 → Finding p look roots cells tests keys i s sort r
-  below : (k : ℕ) → root_at roots sort ≡ k + 1 → Below p look cells tests keys i s sort k r → Finding p look roots cells tests keys i s sort r
+pub data Finding (p look : List ℕ) (t : ListTrees) (i s sort : ℕ) (r : Found) : Type 0 where
+  first : root_at t.roots sort ≡ 0 → r ≡ Root → Finding p look t i s sort r
+  below : (k : ℕ) → root_at t.roots sort ≡ k + 1 → Below p look t i s sort k r → Finding p look t i s sort r
 
 pub record RootsLow (roots : List ℕ) (i : ℕ) : Type 0 where
   pub size : length roots ≡ sorts
   pub low : (b : ℕ) → get sorts roots b ≤ i
 
+-- the trees of the rows below i: nothing in them leads past these, and the members of forks are chained
+pub record Sound (t : ListTrees) (i : ℕ) : Type 0 where
+  pub roots : RootsLow t.roots i
+  pub shape : Shape t.cells t.members.keys i
+  pub members : Chained t.members i
+
+-- trees with nothing in them
+pub record Bare (t : ListTrees) : Type 0 where
+  pub roots_bare : t.roots ≡ replicate sorts 0
+  pub cells_bare : t.cells ≡ replicate cells_len 0
+  pub tests_bare : t.tests ≡ replicate rows 0
+  pub keys_bare : t.members.keys ≡ replicate rows 0
+
+-- what was found of row i's list can be stored
+abbrev pub Storable : Found → ℕ → Type 0
+Storable (Same row) i = Unit {0}
+Storable Loose i = Unit {0}
+Storable Root i = Unit {0}
+Storable (Member key) i = bucket_of key ≤ i
+Storable (Fork cell test key) i = (cell < cells_len) × (cell / 2 < i) × (bucket_of key ≤ i)
+
+-- where row i's list is stored: as a root, in a cell, with a test, and under a key, 0 where it has none
+abbrev pub roots_with : Found → List ℕ → ℕ → ℕ → List ℕ
+roots_with (Same row) roots sort i = roots
+roots_with Loose roots sort i = roots
+roots_with Root roots sort i = set roots (sort % sorts) (i + 1)
+roots_with (Member key) roots sort i = roots
+roots_with (Fork cell test key) roots sort i = roots
+
+abbrev pub cells_with : Found → List ℕ → ℕ → List ℕ
+cells_with (Same row) cells i = cells
+cells_with Loose cells i = cells
+cells_with Root cells i = cells
+cells_with (Member key) cells i = cells
+cells_with (Fork cell test key) cells i = set cells cell (i + 1)
+
+abbrev pub test_in : Found → ℕ
+test_in (Same row) = 0
+test_in Loose = 0
+test_in Root = 0
+test_in (Member key) = 0
+test_in (Fork cell test key) = test
+
+abbrev pub key_in : Found → ℕ
+key_in (Same row) = 0
+key_in Loose = 0
+key_in Root = 0
+key_in (Member key) = key
+key_in (Fork cell test key) = key
+
 -- and is stored
-pub record Grown (roots cells tests keys : List ℕ) (i sort : ℕ) (r : Found) (roots' cells' tests' keys' : List ℕ) : Type 0 where
-  pub roots_set : roots' ≡ pick (eqb r.root 0) roots (set roots (sort % sorts) (i + 1))
-  pub cells_set : cells' ≡ pick (eqb r.cell 0) cells (set cells (r.cell - 1) (i + 1))
-  pub tests_set : tests' ≡ set tests i r.test
-  pub keys_set : keys' ≡ set keys i r.key
+pub record Grown (t : ListTrees) (i sort : ℕ) (r : Found) (t' : ListTrees) : Type 0 where
+  pub roots_set : t'.roots ≡ roots_with r t.roots sort i
+  pub cells_set : t'.cells ≡ cells_with r t.cells i
+  pub tests_set : t'.tests ≡ set t.tests i (test_in r)
+  pub keys_set : t'.members.keys ≡ set t.members.keys i (key_in r)

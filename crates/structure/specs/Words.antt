@@ -1,6 +1,6 @@
 -- What is kept of each list word: the word, and what is known of the type that it names. Words of one value are chained, so that a type's
 -- are found when its row is done.
-use Rattle.std.specs.Prelude.{◌≡◌, List, Bool, false, not, ℕ, ◌+◌, ◌/◌, ◌%◌, ◌<◌, eqb, length}
+use Rattle.std.specs.Prelude.{◌≡◌, List, Bool, false, not, ℕ, ◌+◌, ◌*◌, ◌/◌, ◌%◌, ◌<◌, eqb, length, Option, MatchOption}
 use Rattle.laws.specs.Choice.{pick}
 use Rattle.laws.specs.First.{all}
 use Rattle.laws.specs.Bounded.{get}
@@ -15,6 +15,17 @@ looks = 16384
 -- what the list at s has at place o
 unfoldable pub look_at : List ℕ → ℕ → ℕ → ℕ
 look_at look s o = get looks look ((s / 2 + o) % looks)
+
+-- words x and y have the same
+abbrev pub SameWord : List ℕ → ℕ → ℕ → Type 0
+SameWord look x y = get looks look x ≡ get looks look y
+
+-- of n words from a and b on, `step` words from one to the next: the first that differ, or none
+abbrev pub WordsApart : List ℕ → ℕ → ℕ → ℕ → ℕ → Option ℕ → Type 0
+WordsApart look step a b n r =
+    MatchOption r
+    ((k : ℕ) → k < n → SameWord look (a + step * k) (b + step * k))
+    (λ m. (m < n) × (SameWord look (a + step * m) (b + step * m) → ⊥) × ((k : ℕ) → k < m → SameWord look (a + step * k) (b + step * k)))
 
 -- a word of n places names a marked type
 abbrev pub odd_from : List ℕ → (ℕ → ℕ) → ℕ → Bool

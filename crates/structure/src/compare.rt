@@ -1,70 +1,57 @@
 // Two lists of one sort, compared word by word.
-ghost use Rattle.std.specs.Prelude.{◌≡◌, ◌<◌, ◌≤◌, ◌+◌, ◌*◌, ◌/◌, eqb, leb};
-ghost use Rattle.laws.specs.First.{until};
-ghost use Rattle.laws.specs.Bounded.{get};
+ghost use Rattle.std.specs.Prelude.{◌≡◌, ◌<◌, ◌≤◌, ◌+◌, ◌*◌, ◌/◌, leb};
 ghost use Rattle.structure.specs.Lists.{words, span_of};
-ghost use Rattle.structure.specs.Words.{looks};
+ghost use Rattle.structure.specs.Words.{looks, WordsApart};
 ghost use Rattle.structure.specs.Tree.{Compared, Apart};
 
 use crate::table::TypeTable;
-use laws::both;
 
-// The first of n words from a and b on that differ, or n.
-fn words_apart(look: &[u16; TypeTable::LOOKS], a: usize, b: usize, n: usize) -> usize
-    requires { (a + n ≤ looks) × (b + n ≤ looks) }
-    ensures { result ≡ until (λ m. eqb (get looks look.now (a + m)) (get looks look.now (b + m))) 0 n }
+// The first of n words from a and b on, STEP words from one to the next, that differ.
+fn words_apart<const STEP: usize>(
+    look: &[u16; TypeTable::LOOKS],
+    a: usize,
+    b: usize,
+    n: usize,
+) -> Option<usize>
+    requires { (a + STEP * n < looks + STEP) × (b + STEP * n < looks + STEP) }
+    ensures { WordsApart look.now STEP a b n result }
 {
-    let mut m: usize = 0;
-    while m < n {
-        if look[a + m] == look[b + m] {
-            m += 1;
-        } else {
-            return m;
+    for m in 0..n {
+        if look[a + STEP * m] != look[b + STEP * m] {
+            return Some(m);
         }
     }
-    n
+    None
 }
 
-// The same of every second word.
-fn seconds_apart(look: &[u16; TypeTable::LOOKS], a: usize, b: usize, n: usize) -> usize
-    requires { (a + 2 * n ≤ looks + 1) × (b + 2 * n ≤ looks + 1) }
-    ensures { result ≡ until (λ m. eqb (get looks look.now (a + 2 * m)) (get looks look.now (b + 2 * m))) 0 n }
-{
-    let mut m: usize = 0;
-    while m < n {
-        if look[a + 2 * m] == look[b + 2 * m] {
-            m += 1;
-        } else {
-            return m;
-        }
-    }
-    n
-}
-
-// Lists of n types that start at words a and b: a place where they differ, or 0.
-fn types_apart(look: &[u16; TypeTable::LOOKS], a: usize, b: usize, n: usize) -> usize
+// Lists of n types that start at words a and b: a place where they differ.
+fn types_apart(look: &[u16; TypeTable::LOOKS], a: usize, b: usize, n: usize) -> Option<usize>
     requires { (a + 1 + n ≤ words) × (b + 1 + n ≤ words) }
     ensures { Apart look.now a b (2 * n) result }
 {
-    let m = words_apart(look, a + 1, b + 1, n);
-    if m < n { m + 1 } else { 0 }
+    match words_apart::<1>(look, a + 1, b + 1, n) {
+        Some(m) => Some(m + 1),
+        None => None,
+    }
 }
 
 // The same of lists of n pairs.
-fn pairs_apart(look: &[u16; TypeTable::LOOKS], a: usize, b: usize, n: usize) -> usize
+fn pairs_apart(look: &[u16; TypeTable::LOOKS], a: usize, b: usize, n: usize) -> Option<usize>
     requires { (a + 1 + 2 * n ≤ words) × (b + 1 + 2 * n ≤ words) }
     ensures { Apart look.now a b (2 * n + 1) result }
 {
-    let m = seconds_apart(look, TypeTable::WORDS + a + 1, TypeTable::WORDS + b + 1, n);
-    if m < n {
-        TypeTable::WORDS + 1 + 2 * m
-    } else {
-        let l = seconds_apart(look, a + 2, b + 2, n);
-        if l < n { 2 * l + 2 } else { 0 }
+    let names = words_apart::<2>(look, TypeTable::WORDS + a + 1, TypeTable::WORDS + b + 1, n);
+    if let Some(m) = names {
+        return Some(TypeTable::WORDS + 1 + 2 * m);
+    }
+    match words_apart::<2>(look, a + 2, b + 2, n) {
+        Some(m) => Some(2 * m + 2),
+        None => None,
     }
 }
 
 // How many words the items of a list of that sort take.
+#[tactic(auto, unfolding(crate::specs::Lists::span_of, laws::specs::Choice::pick))]
 pub fn span_of(sort: u32) -> u32
     requires { sort < 131072 }
     ensures { result ≡ span_of sort }
@@ -77,6 +64,7 @@ pub fn span_of(sort: u32) -> u32
 }
 
 // Whether a list of that sort at s lies in the words that there is room for.
+#[tactic(auto, using(crate::proofs::Spots::span_small))]
 pub fn is_within(s: u32, sort: u32) -> bool
     requires { sort < 131072 }
     ensures { result ≡ leb (s / 2 + 1 + span_of sort) words }
@@ -84,27 +72,26 @@ pub fn is_within(s: u32, sort: u32) -> bool
     s / 2 + 1 + span_of(sort) <= 8192
 }
 
-// A place where two lists of one sort differ, or 0.
-pub fn compare(look: &[u16; TypeTable::LOOKS], s: u32, t: u32, sort: u32) -> u32
+// A place where two lists of one sort differ.
+pub fn compare(look: &[u16; TypeTable::LOOKS], s: u32, t: u32, sort: u32) -> Option<usize>
     requires { sort < 131072 }
     ensures { Compared look.now s t sort result }
 {
-    let within = both(is_within(s, sort), is_within(t, sort));
-    if within {
+    if is_within(s, sort) && is_within(t, sort) {
         compare_within(look, (s / 2) as usize, (t / 2) as usize, sort)
     } else {
-        0
+        None
     }
 }
 
-fn compare_within(look: &[u16; TypeTable::LOOKS], a: usize, b: usize, sort: u32) -> u32
+fn compare_within(look: &[u16; TypeTable::LOOKS], a: usize, b: usize, sort: u32) -> Option<usize>
     requires { (sort < 131072) × (a + 1 + span_of sort ≤ words) × (b + 1 + span_of sort ≤ words) }
     ensures { Apart look.now a b sort result }
 {
     let n = (sort / 2) as usize;
     if sort % 2 == 1 {
-        pairs_apart(look, a, b, n) as u32
+        pairs_apart(look, a, b, n)
     } else {
-        types_apart(look, a, b, n) as u32
+        types_apart(look, a, b, n)
     }
 }

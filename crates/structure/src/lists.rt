@@ -8,7 +8,6 @@ ghost use Rattle.structure.specs.Table.{entry, like_at, like, held_in};
 use crate::compare::is_within;
 use crate::slots::{len_at, name_at, part_at, sort_at};
 use crate::table::{TypeTable, entry_at};
-use laws::both;
 use pack::Counts;
 
 fn item_like(
@@ -25,7 +24,7 @@ fn item_like(
     let names = name_at(pack, c, s, m) == name_at(pack, c, t, m);
     let left = entry_at(same, part_at(pack, c, s, m));
     let right = entry_at(same, part_at(pack, c, t, m));
-    both(names, left == right)
+    names && left == right
 }
 
 fn items_like(
@@ -39,11 +38,8 @@ fn items_like(
     requires { n < 65536 }
     ensures { result ≡ all (like_at pack.now c (entry same.now) s t) 0 n }
 {
-    let mut m: u32 = 0;
-    while m < n {
-        if item_like(pack, c, same, s, t, m) {
-            m += 1;
-        } else {
+    for m in 0..n {
+        if !item_like(pack, c, same, s, t, m) {
             return false;
         }
     }
@@ -51,6 +47,7 @@ fn items_like(
 }
 
 // Whether two lists look the same. The loop is not entered where they are of other sorts.
+#[tactic(auto, unfolding(crate::specs::Table::like))]
 pub fn lists_like(pack: &[u8], c: Counts, same: &[u32; TypeTable::CAPACITY], s: u32, t: u32) -> bool
     ensures { result ≡ like pack.now c (entry same.now) s t }
 {
@@ -65,47 +62,25 @@ pub fn lists_like(pack: &[u8], c: Counts, same: &[u32; TypeTable::CAPACITY], s: 
 pub fn list_held(pack: &[u8], c: Counts, marks: &[u32; TypeTable::CAPACITY], s: u32) -> bool
     ensures { result ≡ held_in pack.now c (entry marks.now) s }
 {
-    let n = len_at(pack, c, s);
-    let mut m: u32 = 0;
-    while m < n {
-        if entry_at(marks, part_at(pack, c, s, m)) == 0 {
-            m += 1;
-        } else {
+    for m in 0..len_at(pack, c, s) {
+        if entry_at(marks, part_at(pack, c, s, m)) != 0 {
             return true;
         }
     }
     false
 }
 
-// Whether one of the n words from a on names a marked type: those that do are counted, with no way out of the loop, so that several are taken
-// at a time.
-fn any_held(look: &[u16; TypeTable::LOOKS], a: usize, n: usize) -> bool
-    requires { a + n ≤ looks }
-    ensures { result ≡ odd_from look.now (λ m. a + m) n }
+// Whether one of the n words from a on, STEP words from one to the next, names a marked type: those that do are counted, with no way out of
+// the loop, so that several are taken at a time.
+fn any_held<const STEP: usize>(look: &[u16; TypeTable::LOOKS], a: usize, n: usize) -> bool
+    requires { (a + STEP * n < looks + STEP) × (n ≤ looks) }
+    ensures { result ≡ odd_from look.now (λ m. a + STEP * m) n }
 {
     let mut odd: u16 = 0;
-    let mut m: usize = 0;
-    while m < n {
-        odd += look[a + m] % 2;
-        m += 1;
+    for m in 0..n {
+        odd += look[a + STEP * m] % 2;
     }
     odd != 0
-}
-
-// The same of every second word.
-fn any_second_held(look: &[u16; TypeTable::LOOKS], a: usize, n: usize) -> bool
-    requires { a + 2 * n ≤ looks + 1 }
-    ensures { result ≡ odd_from look.now (λ m. a + 2 * m) n }
-{
-    let mut m: usize = 0;
-    while m < n {
-        if look[a + 2 * m] % 2 == 0 {
-            m += 1;
-        } else {
-            return true;
-        }
-    }
-    false
 }
 
 // Whether a type of the list is marked, by what is known of its words.
@@ -117,9 +92,9 @@ pub fn words_held(look: &[u16; TypeTable::LOOKS], s: u32, sort: u32) -> bool
         let n = (sort / 2) as usize;
         let start = (s / 2) as usize;
         if sort % 2 == 1 {
-            any_second_held(look, start + 2, n)
+            any_held::<2>(look, start + 2, n)
         } else {
-            any_held(look, start + 1, n)
+            any_held::<1>(look, start + 1, n)
         }
     } else {
         false

@@ -1,41 +1,28 @@
-// The list of a type row, named by its slot: twice its start, and one more where it is a list of pairs.
+// The list of a type row, named by its slot: twice its start, and one more where it is a list of pairs. A slot is a place in the array of rows
+// that have each list, and a sort one in the array of roots, so each is one number.
 ghost use Rattle.std.specs.Prelude.{◌≡◌, ◌<◌};
 ghost use Rattle.laws.specs.Bounded.{Reads};
 ghost use Rattle.pack.specs.Rows.{type_row};
-ghost use Rattle.structure.specs.Structure.{paired};
-ghost use Rattle.structure.specs.Lists.{listed, slot_of, sort_of, of_pairs, len_at, name_at, part_at};
+ghost use Rattle.structure.specs.Lists.{slot_of, sort_of, of_pairs, len_at, name_at, part_at};
 
-use laws::either;
 use pack::{Counts, list_item, list_len, type_row};
 
 // The slot of rows that have no list.
 const NO_LIST: u32 = 32768;
 
-fn is_paired(kind: u32) -> bool
-    ensures { result ≡ paired kind }
-{
-    either(kind == 5, kind == 10)
-}
-
-fn is_listed(kind: u32) -> bool
-    ensures { result ≡ listed kind }
-{
-    either(kind == 4, kind == 6)
-}
-
+#[tactic(auto, using(crate::proofs::Reading::row_small))]
 pub fn slot_at(pack: &[u8], i: u32) -> u32
     ensures { Reads result (slot_of (type_row pack.now i)) 32769 }
 {
     let row = type_row(pack, i);
-    if is_paired(row.kind) {
-        2 * row.b + 1
-    } else if is_listed(row.kind) {
-        2 * row.b
-    } else {
-        NO_LIST
+    match row.kind {
+        5 | 10 => 2 * row.b + 1,
+        4 | 6 => 2 * row.b,
+        _ => NO_LIST,
     }
 }
 
+#[tactic(auto, unfolding(crate::specs::Lists::len_at, laws::specs::Choice::pick))]
 pub fn len_at(pack: &[u8], c: Counts, s: u32) -> u32
     ensures { Reads result (len_at pack.now c s) 65536 }
 {
@@ -47,12 +34,14 @@ pub fn len_at(pack: &[u8], c: Counts, s: u32) -> u32
 }
 
 // A list's length, and whether it is one of pairs.
+#[tactic(auto, unfolding(crate::specs::Lists::sort_of))]
 pub fn sort_at(pack: &[u8], c: Counts, s: u32) -> u32
     ensures { Reads result (sort_of pack.now c s) 131072 }
 {
     2 * len_at(pack, c, s) + s % 2
 }
 
+#[tactic(auto, unfolding(crate::specs::Lists::of_pairs))]
 fn of_pairs(s: u32) -> bool
     ensures { result ≡ of_pairs s }
 {
@@ -60,6 +49,7 @@ fn of_pairs(s: u32) -> bool
 }
 
 // Of item m: its name, 0 where the list has none.
+#[tactic(auto, unfolding(crate::specs::Lists::name_at, laws::specs::Choice::pick))]
 pub fn name_at(pack: &[u8], c: Counts, s: u32, m: u32) -> u32
     requires { m < 65536 }
     ensures { Reads result (name_at pack.now c s m) 65536 }
@@ -72,6 +62,7 @@ pub fn name_at(pack: &[u8], c: Counts, s: u32, m: u32) -> u32
 }
 
 // Of item m: its type.
+#[tactic(auto, unfolding(crate::specs::Lists::part_at, laws::specs::Choice::pick))]
 pub fn part_at(pack: &[u8], c: Counts, s: u32, m: u32) -> u32
     requires { m < 65536 }
     ensures { Reads result (part_at pack.now c s m) 65536 }

@@ -2,7 +2,7 @@
 ghost use Rattle.std.specs.Prelude.{◌≡◌, replicate};
 ghost use Rattle.laws.specs.Bounded.{get, Reads};
 ghost use Rattle.structure.specs.Structure.{rows};
-ghost use Rattle.structure.specs.Table.{Clear};
+ghost use Rattle.structure.specs.Table.{Clear, Link};
 
 #[derive(Drop)]
 pub struct TypeTable {
@@ -40,6 +40,7 @@ impl TypeTable {
 }
 
 // What an array of the table has for row k, 0 past its end.
+#[tactic(auto, using(laws::proofs::Bounded::get_in, laws::proofs::Bounded::get_out))]
 pub fn entry_at(xs: &[u32; TypeTable::CAPACITY], k: u32) -> u32
     ensures { result ≡ get rows xs.now k }
 {
@@ -50,35 +51,19 @@ pub fn entry_at(xs: &[u32; TypeTable::CAPACITY], k: u32) -> u32
     }
 }
 
-// The same of an array of 16 bits, and of 8.
-pub fn short_at(xs: &[u16; TypeTable::CAPACITY], k: u32) -> u32
-    ensures { Reads result (get rows xs.now k) 65536 }
-{
-    if (k as usize) < TypeTable::CAPACITY {
-        wide(xs[k as usize])
-    } else {
-        0
-    }
-}
-
-pub fn byte_at(xs: &[u8; TypeTable::CAPACITY], k: u32) -> u32
-    ensures { Reads result (get rows xs.now k) 256 }
-{
-    if (k as usize) < TypeTable::CAPACITY {
-        wide_byte(xs[k as usize])
-    } else {
-        0
-    }
-}
-
-fn wide_byte(x: u8) -> u32
-    ensures { Reads result x 256 }
-{
-    x as u32
-}
-
 pub fn wide(x: u16) -> u32
     ensures { Reads result x 65536 }
 {
     x as u32
+}
+
+// Where a link leads.
+pub fn linked(link: u16) -> Option<u32>
+    ensures { Link link result }
+{
+    if link == 0 {
+        None
+    } else {
+        Some(wide(link) - 1)
+    }
 }

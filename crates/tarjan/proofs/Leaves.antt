@@ -1,13 +1,15 @@
 -- The end of a visit, on the arrays: the value stays on the stack (`stays`), or a component leaves it (`leaves`).
 -- Assumes nothing.
-use Prim.Native.Nat.{ℕ, zero, suc, ◌+◌, ◌-◌, ◌≤◌, ◌<◌}
+use Prim.Native.Nat.{ℕ, suc, ◌+◌, ◌-◌, ◌≤◌, ◌<◌}
 use mathlib.Core.Path.{◌≡◌, sym, ap, subst, ◌∙◌}
 use mathlib.Core.List.{List, [], ◌∷◌, ◌++◌}
 use native.Mathlib.Omega.{arith}
-use lib.ListN.{length, take, drop, get_or, length-append}
-use lib.Seq.{slice, take-nil, drop-drop, drop-append_seam, length-slice}
+use lib.ListN.{length, take, drop, get_or, length-append, length-drop}
+use lib.Seq.{drop-drop, drop-append_seam, length-take-le}
 use borrow.Author.Tests.{eq-eqb, ne_eqb}
+use Rattle.std.proofs.lemmas.List.{take-append-drop}
 use Rattle.laws.specs.Lists.{count, In}
+use Rattle.laws.proofs.Lists.{count_append}
 use Rattle.laws.proofs.Members.{in_at}
 use Rattle.pack.specs.Named.{items_of, refs_of}
 use Rattle.pack.specs.declared.counts.Counts.{Counts}
@@ -16,23 +18,15 @@ use Rattle.components.specs.Tarjan.{State, push, pop, listing, follow_all, leave
 use Rattle.components.specs.Invariant.{Good}
 use Rattle.components.proofs.Steps.{Step}
 use Rattle.components.proofs.Unfold.{finished, unfolds}
-use Rattle.components.proofs.Visits.{pushed, follows, visits, stack_x, cut_off}
-use Rattle.tarjan.specs.Search.{Arrays, lent, Holds, Gives, visit, Pops, Popped}
+use Rattle.components.proofs.Visits.{pushed, follows, visits, stack_x}
+use Rattle.tarjan.specs.Search.{Holds, Gives, visit, above, Pops, Popped}
 use Rattle.tarjan.specs.Values.{capacity, list_of, InRange}
-use Rattle.tarjan.specs.declared.search.Run.{Run}
+use Rattle.tarjan.specs.declared.search.Search.{Search}
+use Rattle.tarjan.specs.declared.stack.Stack.{Stack}
 use Rattle.tarjan.proofs.Arrays.{stack_length, enough}
 
-slice_as : (f t : ℕ) (l : List ℕ) → slice f t l ≡ take (t - f) (drop f l)
-slice_as zero t l = let e : t ≡ t - 0 = omega arith in ap (λ k. take k l) e
-slice_as (suc f) zero l = let e : 0 ≡ 0 - suc f = omega arith in ap (λ k. take k (drop (suc f) l)) e
-slice_as (suc f) (suc t) [] = sym (take-nil (suc t - suc f))
-slice_as (suc f) (suc t) (x ∷ l) = let e : t - f ≡ suc t - suc f = omega arith in slice_as f t l ∙ ap (λ k. take k (drop f l)) e
-
-in_drop : (f i : ℕ) (l : List ℕ) → f ≤ i → i < length l → In (get_or l i 0) (drop f l)
-in_drop zero i l h k = in_at l i k
-in_drop (suc f) i [] h k = absurd (omega arith)
-in_drop (suc f) zero (x ∷ l) h k = absurd (omega arith)
-in_drop (suc f) (suc i) (x ∷ l) h k = in_drop f i l (omega arith) (omega arith)
+count_take : (y k : ℕ) (l : List ℕ) → count y (take k l) ≤ count y l
+count_take y k l = omega (arith, count_append y (take k l) (drop k l), ap (count y) (take-append-drop k l))
 
 leave_own : (s : State) (r : ℕ × State) → r.0 ≡ suc (length s.found) → finished s r ≡ (r.0, pop s r.1)
 unfolding leave
@@ -46,8 +40,8 @@ leave_other s r d = ap (leave s r) (ne_eqb r.0 (suc (length s.found)) d)
 pub refs_values : {p : List ℕ} {c : Counts} {x sl : ℕ} → InRange p c → x < c.values → sl ≡ list_of p c x → (w : ℕ) → In w (items_of p c sl) → w < c.values
 refs_values {p} {c} {x} t l e w i = t.fits x l w (subst (λ (j : ℕ). In w (items_of p c j)) e i)
 
--- x was put on the stack at r, its references were followed, and the run is at q
-module _ {p : List ℕ} {c : Counts} {x : ℕ} {a : Arrays} {r : Run} {s : State} (h : Holds p c a r s) (l : x < c.values) (z : count x s.found ≡ 0) where
+-- x was put on the stack at a, and its references were followed to b
+module _ {p : List ℕ} {c : Counts} {x : ℕ} {a : Search} {s : State} (h : Holds p c a s) (l : x < c.values) (z : count x s.found ≡ 0) where
   abbrev through : ℕ × State
   through = follow_all (visit p c) (refs_of p c x) (push x s) (suc (length s.found))
 
@@ -57,94 +51,94 @@ module _ {p : List ℕ} {c : Counts} {x : ℕ} {a : Arrays} {r : Run} {s : State
   visit_is : visit p c x s ≡ finished s through
   visit_is = unfolds (refs_of p c) c.values h.in_range.fits x s h.good l z
 
-  module _ {sl : ℕ} {a₁ : Arrays} {q : Run} (es : sl ≡ list_of p c x) (g : Gives p c a₁ q (follow_all (visit p c) (items_of p c sl) (push x s) (r.next + 1))) where
-    follow_is : follow_all (visit p c) (items_of p c sl) (push x s) (r.next + 1) ≡ through
+  module _ {sl : ℕ} {b : Search} {low : ℕ} (es : sl ≡ list_of p c x) (g : Gives p c b low (follow_all (visit p c) (items_of p c sl) (push x s) (a.discovered + 1))) where
+    follow_is : follow_all (visit p c) (items_of p c sl) (push x s) (a.discovered + 1) ≡ through
     follow_is =
-        let k : r.next + 1 ≡ suc (length s.found) = omega (arith, h.next_is) in
-        ap (λ j. follow_all (visit p c) (items_of p c j) (push x s) (r.next + 1)) es ∙ ap (follow_all (visit p c) (refs_of p c x) (push x s)) k
+        let k : a.discovered + 1 ≡ suc (length s.found) = omega (arith, h.discovered_is) in
+        ap (λ j. follow_all (visit p c) (items_of p c j) (push x s) (a.discovered + 1)) es ∙ ap (follow_all (visit p c) (refs_of p c x) (push x s)) k
 
-    low_is : q.low ≡ through.0
+    low_is : low ≡ through.0
     low_is = g.low_is ∙ ap (λ (t : ℕ × State). t.0) follow_is
 
-    holds : Holds p c a₁ q through.1
-    holds = subst (λ (t : ℕ × State). Holds p c a₁ q t.1) follow_is g.holds
+    holds : Holds p c b through.1
+    holds = subst (λ (t : ℕ × State). Holds p c b t.1) follow_is g.holds
 
-    pub stays : (q.low ≡ r.next + 1 → ⊥) → Gives p c a₁ q (visit p c x s)
-    stays d = subst (λ (t : ℕ × State). Gives p c a₁ q t) (follow_is ∙ sym (leave_other s through (λ e. d (low_is ∙ e ∙ omega (arith, h.next_is)))) ∙ sym visit_is) g
+    pub stays : (low ≡ a.discovered + 1 → ⊥) → Gives p c b low (visit p c x s)
+    stays d = subst (λ (t : ℕ × State). Gives p c b low t) (follow_is ∙ sym (leave_other s through (λ e. d (low_is ∙ e ∙ omega (arith, h.discovered_is)))) ∙ sym visit_is) g
 
     -- ---- the component
 
     abbrev component : List ℕ
     component = take (length through.1.stack - length s.stack) through.1.stack
 
-    above : through.1.stack ≡ (went.seg ++ (x ∷ [])) ++ s.stack
-    above = stack_x (refs_of p c) c.values h.good z went
+    over_x : through.1.stack ≡ (went.seg ++ (x ∷ [])) ++ s.stack
+    over_x = stack_x (refs_of p c) c.values h.good z went
 
-    component_is : component ≡ went.seg ++ (x ∷ [])
-    component_is = cut_off (refs_of p c) c.values (went.seg ++ (x ∷ [])) s.stack through.1.stack above
+    pub below_top : b.stack.top < a.stack.top
+    below_top = omega (arith, stack_length holds, stack_length h, ap length over_x, length-append (went.seg ++ (x ∷ [])) s.stack, length-append went.seg (x ∷ []), h.top_le, holds.top_le)
 
-    pub below_top : q.top < r.top
-    below_top = omega (arith, stack_length holds, stack_length h, ap length above, length-append (went.seg ++ (x ∷ [])) s.stack, length-append went.seg (x ∷ []), h.top_le, holds.top_le)
+    -- they stand on the stack of b above that of a
+    abbrev members : List ℕ
+    members = above b.stack a.stack.top
 
-    in_stack : (i : ℕ) → q.top ≤ i → i < r.top → get_or a₁.stack i 0 < c.values
-    in_stack i b e =
-        let m : In (get_or a₁.stack i 0) through.1.stack = subst (λ (t : List ℕ). In (get_or a₁.stack i 0) t) holds.stack_is (in_drop q.top i a₁.stack b (omega (arith, holds.len_stack, h.top_le))) in
-        holds.good.under (get_or a₁.stack i 0) (omega (arith, holds.good.split (get_or a₁.stack i 0)))
+    members_are : members ≡ component
+    members_are =
+        let k : a.stack.top - b.stack.top ≡ length through.1.stack - length s.stack = omega (arith, below_top, stack_length holds, stack_length h, h.top_le) in
+        ap (λ j. take j (drop b.stack.top b.stack.values)) k ∙ ap (take (length through.1.stack - length s.stack)) holds.stack_is
 
-    pub pops : Pops a₁.stack a₁.listed a₁.size q r.top
+    many : length members ≡ a.stack.top - b.stack.top
+    many = length-take-le (a.stack.top - b.stack.top) (drop b.stack.top b.stack.values) (omega (arith, length-drop b.stack.top b.stack.values, holds.len_stack, h.top_le))
+
+    is_value : (y : ℕ) → In y members → y < c.values
+    is_value y m =
+        let k : count y component ≤ count y through.1.stack = count_take y (length through.1.stack - length s.stack) through.1.stack in
+        let e : count y members ≡ count y component = ap (count y) members_are in
+        holds.good.under y (omega (arith, holds.good.split y))
+
+    pub pops : Pops b a.stack.top
     pops = record {
       len_stack = holds.len_stack;
-      len_listed = holds.len_listed;
-      len_size = holds.len_size;
       lo = omega (arith, below_top);
       hi = h.top_le;
-      space = omega (arith, below_top, enough holds, h.top_le);
-      members = λ i b e. omega (arith, h.in_range.few, in_stack i b e);
+      takes = record {
+        len_listed = holds.len_listed;
+        len_sizes = holds.len_sizes;
+        space = omega (arith, below_top, many, enough holds, h.top_le);
+        under = λ i l. omega (arith, h.in_range.few, is_value (get_or members i 0) (in_at members i l));
+      };
     }
 
-    slice_is : slice q.top r.top a₁.stack ≡ component
-    slice_is =
-        let k : r.top - q.top ≡ length through.1.stack - length s.stack = omega (arith, below_top, stack_length holds, stack_length h, h.top_le) in
-        slice_as q.top r.top a₁.stack ∙ ap (λ j. take j (drop q.top a₁.stack)) k ∙ ap (take (length through.1.stack - length s.stack)) holds.stack_is
-
-    rest_is : drop r.top a₁.stack ≡ s.stack
+    rest_is : drop a.stack.top b.stack.values ≡ s.stack
     rest_is =
-        let k : r.top ≡ q.top + length (went.seg ++ (x ∷ [])) = omega (arith, below_top, ap length above, length-append (went.seg ++ (x ∷ [])) s.stack, stack_length holds, stack_length h, h.top_le) in
-        ap (λ j. drop j a₁.stack) k ∙ sym (drop-drop (length (went.seg ++ (x ∷ []))) q.top a₁.stack) ∙ ap (drop (length (went.seg ++ (x ∷ [])))) (holds.stack_is ∙ above) ∙ drop-append_seam (went.seg ++ (x ∷ [])) s.stack
+        let k : a.stack.top ≡ b.stack.top + length (went.seg ++ (x ∷ [])) = omega (arith, below_top, ap length over_x, length-append (went.seg ++ (x ∷ [])) s.stack, stack_length holds, stack_length h, h.top_le) in
+        ap (λ j. drop j b.stack.values) k ∙ sym (drop-drop (length (went.seg ++ (x ∷ []))) b.stack.top b.stack.values) ∙ ap (drop (length (went.seg ++ (x ∷ [])))) (holds.stack_is ∙ over_x) ∙ drop-append_seam (went.seg ++ (x ∷ [])) s.stack
 
-    size_of : r.top - q.top ≡ length component
-    size_of = sym (length-slice q.top r.top a₁.stack (omega (arith, holds.len_stack, h.top_le))) ∙ ap length slice_is
-
-    module _ {listed' size' : List ℕ} {t : Run} (own : q.low ≡ r.next + 1) (m : Popped a₁.stack a₁.listed a₁.size q r.top listed' size' t) where
+    module _ {e : Search} (own : low ≡ a.discovered + 1) (m : Popped b a.stack.top e) where
       after_is : visit p c x s ≡ (through.0, pop s through.1)
-      after_is = visit_is ∙ leave_own s through (omega (arith, low_is, own, h.next_is))
+      after_is = visit_is ∙ leave_own s through (omega (arith, low_is, own, h.discovered_is))
 
-      sizes : (y : ℕ) → y < capacity → get_or size' y 0 ≡ size_in (component ∷ through.1.components) y
-      sizes y b =
-          m.size_is y b
-          ∙ ap (λ (k : List ℕ). over (count y k) (r.top - q.top) (get_or a₁.size y 0)) slice_is
-          ∙ ap (λ (k : ℕ). over (count y component) k (get_or a₁.size y 0)) size_of
-          ∙ ap (over (count y component) (length component)) (holds.size_is y b)
+      sizes : (y : ℕ) → y < capacity → get_or e.listing.sizes y 0 ≡ size_in (component ∷ through.1.components) y
+      sizes y l =
+          m.taken.size_is y l
+          ∙ ap (λ (k : List ℕ). over (count y k) (length k) (get_or b.listing.sizes y 0)) members_are
+          ∙ ap (over (count y component) (length component)) (holds.size_is y l)
 
-      abbrev popped : Run
-      popped = record { low = q.low; next = q.next; top = r.top; done = q.done + (r.top - q.top) }
-
-      holds_popped : Holds p c (lent a₁.index a₁.stack listed' size') popped (visit p c x s).1
-      holds_popped = subst (λ (u : ℕ × State). Holds p c (lent a₁.index a₁.stack listed' size') popped u.1) (sym after_is) (record {
+      holds_popped : Holds p c e (pop s through.1)
+      holds_popped = record {
         in_range = h.in_range;
         good = subst (λ (u : ℕ × State). Good (refs_of p c) c.values u.1) after_is (visits (refs_of p c) c.values h.in_range.fits c.values x s h.good l z (omega arith)).good;
-        len_index = holds.len_index;
-        len_stack = holds.len_stack;
-        len_listed = m.len_listed;
-        len_size = m.len_size;
-        next_is = holds.next_is;
-        top_le = h.top_le;
-        done_le = omega (arith, below_top, enough holds, h.top_le);
-        stack_is = rest_is;
-        listed_is = m.listed_is ∙ ap (λ (u : List ℕ). u ++ slice q.top r.top a₁.stack) holds.listed_is ∙ ap (λ (u : List ℕ). listing through.1.components ++ u) slice_is;
-        index_is = holds.index_is;
+        len_index = ap length m.index_is ∙ holds.len_index;
+        len_stack = ap (λ (u : Stack). length u.values) m.stack_is ∙ holds.len_stack;
+        len_listed = m.taken.len_listed;
+        len_sizes = m.taken.len_sizes;
+        discovered_is = m.discovered_is ∙ holds.discovered_is;
+        top_le = omega (arith, ap (λ (u : Stack). u.top) m.stack_is, h.top_le);
+        length_le = omega (arith, m.taken.length_is, many, below_top, enough holds, h.top_le);
+        stack_is = ap (λ (u : Stack). drop u.top u.values) m.stack_is ∙ rest_is;
+        listed_is = m.taken.listed_is ∙ ap (λ (u : List ℕ). u ++ members) holds.listed_is ∙ ap (λ (u : List ℕ). listing through.1.components ++ u) members_are;
+        index_is = λ y l. ap (λ (u : List ℕ). get_or u y 0) m.index_is ∙ holds.index_is y l;
         size_is = sizes;
-      })
+      }
 
-      pub leaves : Gives p c (lent a₁.index a₁.stack listed' size') t (visit p c x s)
-      leaves = subst (λ (u : Run). Gives p c (lent a₁.index a₁.stack listed' size') u (visit p c x s)) (sym m.run_is) (record { holds = holds_popped; low_is = low_is ∙ ap (λ (u : ℕ × State). u.0) (sym after_is) })
+      pub leaves : Gives p c e low (visit p c x s)
+      leaves = subst (λ (u : ℕ × State). Gives p c e low u) (sym after_is) (record { holds = holds_popped; low_is = low_is })

@@ -1,6 +1,6 @@
 pub mod Items
 pub mod Asks
-pub mod Pops
+pub mod Takes
 pub mod Arrays
 pub mod Leaves
 pub mod Follows

@@ -1,6 +1,5 @@
 -- What the arrays of the search stand for: a state of the search as `components` defines it.
-use Rattle.std.specs.Prelude.{ℕ, ◌+◌, ◌-◌, ◌≤◌, ◌<◌, min, ◌≡◌, List, ◌++◌, length, take, drop, get_or}
-use Rattle.std.proofs.Math.Seq.{slice}
+use Rattle.std.specs.Prelude.{ℕ, ◌+◌, ◌-◌, ◌≤◌, ◌<◌, ◌≡◌, List, ◌++◌, length, take, drop, set, get_or}
 use Rattle.laws.specs.Lists.{count}
 use Rattle.pack.specs.Named.{refs_of}
 use Rattle.pack.specs.declared.counts.Counts.{Counts}
@@ -9,83 +8,97 @@ use Rattle.components.specs.Found.{index as number}
 use Rattle.components.specs.Tarjan.{State, listing, strong_connect}
 use Rattle.components.specs.Invariant.{Good}
 use Rattle.tarjan.specs.Values.{capacity, kind_of, InRange}
-use Rattle.tarjan.specs.declared.search.Run.{Run}
+use Rattle.tarjan.specs.declared.listing.Listing.{Listing}
+use Rattle.tarjan.specs.declared.search.Search.{Search}
+use Rattle.tarjan.specs.declared.stack.Stack.{Stack}
 
--- the lowest index, and one more
-abbrev pub lowered : Run → ℕ → Run
-lowered r new = record { low = min r.low new; next = r.next; top = r.top; done = r.done }
-
--- the four arrays that are lent
-pub record Arrays : Type 0 where
-  pub index : List ℕ
-  pub stack : List ℕ
-  pub listed : List ℕ
-  pub size : List ℕ
-
-abbrev pub lent : List ℕ → List ℕ → List ℕ → List ℕ → Arrays
-lent index stack listed size = record { index = index; stack = stack; listed = listed; size = size }
+-- v on top of a stack
+abbrev pub pushed : ℕ → Stack → Stack
+pushed v a = record { values = set a.values (a.top - 1) v; top = a.top - 1 }
 
 -- a visit in the pack's table
 abbrev pub visit : List ℕ → Counts → ℕ → State → ℕ × State
 visit p c = strong_connect (refs_of p c) c.values
 
--- the arrays, where the run is at r, stand for s
-pub record Holds (p : List ℕ) (c : Counts) (a : Arrays) (r : Run) (s : State) : Type 0 where
+-- where the search is stands for s
+pub record Holds (p : List ℕ) (c : Counts) (a : Search) (s : State) : Type 0 where
   pub in_range : InRange p c
   pub good : Good (refs_of p c) c.values s
   pub len_index : length a.index ≡ capacity
-  pub len_stack : length a.stack ≡ capacity
-  pub len_listed : length a.listed ≡ capacity
-  pub len_size : length a.size ≡ capacity
-  pub next_is : r.next ≡ length s.found
-  pub top_le : r.top ≤ capacity
-  pub done_le : r.done ≤ capacity
+  pub len_stack : length a.stack.values ≡ capacity
+  pub len_listed : length a.listing.values ≡ capacity
+  pub len_sizes : length a.listing.sizes ≡ capacity
+  pub discovered_is : a.discovered ≡ length s.found
+  pub top_le : a.stack.top ≤ capacity
+  pub length_le : a.listing.length ≤ capacity
   -- the stack, its top first, and the listing
-  pub stack_is : drop r.top a.stack ≡ s.stack
-  pub listed_is : take r.done a.listed ≡ listing s.components
+  pub stack_is : drop a.stack.top a.stack.values ≡ s.stack
+  pub listed_is : take a.listing.length a.listing.values ≡ listing s.components
   -- each value's index, and the size of its component
   pub index_is : (y : ℕ) → y < capacity → get_or a.index y 0 ≡ number y s.found
-  pub size_is : (y : ℕ) → y < capacity → get_or a.size y 0 ≡ size_in s.components y
+  pub size_is : (y : ℕ) → y < capacity → get_or a.listing.sizes y 0 ≡ size_in s.components y
 
--- the arrays stand for the state that a part of the search gives, and the run has the lowest index that it gives
-pub record Gives (p : List ℕ) (c : Counts) (a : Arrays) (r : Run) (result : ℕ × State) : Type 0 where
-  pub holds : Holds p c a r result.1
-  pub low_is : r.low ≡ result.0
+-- the search stands for the state that a part of it gives, and `low` is the lowest index that it gives
+pub record Gives (p : List ℕ) (c : Counts) (a : Search) (low : ℕ) (result : ℕ × State) : Type 0 where
+  pub holds : Holds p c a result.1
+  pub low_is : low ≡ result.0
 
--- the arrays stand for some state
-abbrev pub Stands : List ℕ → Counts → Arrays → Run → Type 0
-Stands p c a r = (s : State) × Holds p c a r s
+-- the search stands for some state
+abbrev pub Stands : List ℕ → Counts → Search → Type 0
+Stands p c a = (s : State) × Holds p c a s
 
--- whatever state the arrays a stood for at r, the arrays b stand at q for what is given from that state
-abbrev pub Leads : List ℕ → Counts → Arrays → Run → Arrays → Run → (State → ℕ × State) → Type 0
-Leads p c a r b q result = (s : State) → Holds p c a r s → Gives p c b q (result s)
+-- whatever state a stood for, b stands with `low` for what is given from that state
+abbrev pub Leads : List ℕ → Counts → Search → Search → ℕ → (State → ℕ × State) → Type 0
+Leads p c a b low result = (s : State) → Holds p c a s → Gives p c b low (result s)
 
--- what `pop` is given: the values from the top up to `end`, which fit into the listing
-pub record Pops (stack listed size : List ℕ) (r : Run) (end : ℕ) : Type 0 where
-  pub len_stack : length stack ≡ capacity
-  pub len_listed : length listed ≡ capacity
-  pub len_size : length size ≡ capacity
-  pub lo : r.top ≤ end
+-- the members of a component, which fit into the listing
+pub record Takes (members : List ℕ) (a : Listing) : Type 0 where
+  pub len_listed : length a.values ≡ capacity
+  pub len_sizes : length a.sizes ≡ capacity
+  pub space : a.length + length members ≤ capacity
+  pub under : (i : ℕ) → i < length members → get_or members i 0 < capacity
+
+-- they are listed, and each has their number as its size
+pub record Taken (members : List ℕ) (a b : Listing) : Type 0 where
+  pub len_listed : length b.values ≡ capacity
+  pub len_sizes : length b.sizes ≡ capacity
+  pub length_is : b.length ≡ a.length + length members
+  pub listed_is : take b.length b.values ≡ take a.length a.values ++ members
+  pub size_is : (y : ℕ) → y < capacity → get_or b.sizes y 0 ≡ over (count y members) (length members) (get_or a.sizes y 0)
+
+-- the values from the stack's top up to `end`
+abbrev pub above : Stack → ℕ → List ℕ
+above a end = take (end - a.top) (drop a.top a.values)
+
+-- they are a component's members
+pub record Pops (a : Search) (end : ℕ) : Type 0 where
+  pub len_stack : length a.stack.values ≡ capacity
+  pub lo : a.stack.top ≤ end
   pub hi : end ≤ capacity
-  pub space : r.done + (end - r.top) ≤ capacity
-  pub members : (i : ℕ) → r.top ≤ i → i < end → get_or stack i 0 < capacity
+  pub takes : Takes (above a.stack end) a.listing
 
--- what it leaves
-pub record Popped (stack listed size : List ℕ) (r : Run) (end : ℕ) (listed' size' : List ℕ) (q : Run) : Type 0 where
-  pub run_is : q ≡ record { low = r.low; next = r.next; top = end; done = r.done + (end - r.top) }
-  pub len_listed : length listed' ≡ capacity
-  pub len_size : length size' ≡ capacity
-  pub listed_is : take (r.done + (end - r.top)) listed' ≡ take r.done listed ++ slice r.top end stack
-  pub size_is : (y : ℕ) → y < capacity → get_or size' y 0 ≡ over (count y (slice r.top end stack)) (end - r.top) (get_or size y 0)
+-- they are listed and have left the stack
+pub record Popped (a : Search) (end : ℕ) (b : Search) : Type 0 where
+  pub index_is : b.index ≡ a.index
+  pub discovered_is : b.discovered ≡ a.discovered
+  pub stack_is : b.stack ≡ record { values = a.stack.values; top = end }
+  pub taken : Taken (above a.stack end) a.listing b.listing
 
--- an array before the search
-pub record Blank (a : List ℕ) : Type 0 where
-  pub len : length a ≡ capacity
-  pub clear : (y : ℕ) → get_or a y 0 ≡ 0
+-- nothing is discovered yet
+pub record Blank (a : Search) : Type 0 where
+  pub len_index : length a.index ≡ capacity
+  pub len_stack : length a.stack.values ≡ capacity
+  pub len_listed : length a.listing.values ≡ capacity
+  pub len_sizes : length a.listing.sizes ≡ capacity
+  pub discovered_is : a.discovered ≡ 0
+  pub top_is : a.stack.top ≡ capacity
+  pub length_is : a.listing.length ≡ 0
+  pub no_index : (y : ℕ) → get_or a.index y 0 ≡ 0
+  pub no_size : (y : ℕ) → get_or a.listing.sizes y 0 ≡ 0
 
--- the listing and the sizes after it
-pub record Sorted (p : List ℕ) (c : Counts) (listed size : List ℕ) : Type 0 where
-  pub len_listed : length listed ≡ capacity
-  pub len_size : length size ≡ capacity
-  pub listed_is : take c.values listed ≡ order (kind_of p c) (refs_of p c) c.values
-  pub size_is : (y : ℕ) → y < capacity → get_or size y 0 ≡ size_in (found (kind_of p c) (refs_of p c) c.values) y
+-- the listing and the sizes after the search
+pub record Sorted (p : List ℕ) (c : Counts) (a : Listing) : Type 0 where
+  pub len_listed : length a.values ≡ capacity
+  pub len_sizes : length a.sizes ≡ capacity
+  pub listed_is : take c.values a.values ≡ order (kind_of p c) (refs_of p c) c.values
+  pub size_is : (y : ℕ) → y < capacity → get_or a.sizes y 0 ≡ size_in (found (kind_of p c) (refs_of p c) c.values) y

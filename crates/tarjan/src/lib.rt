@@ -2,9 +2,12 @@
 #![tactic(auto)]
 
 mod connect;
+mod listing;
 mod search;
 mod stack;
 mod values;
 
 pub use connect::tarjan;
-pub use values::{Values, list_of, wide};
+pub use listing::Listing;
+pub use search::Search;
+pub use values::list_of;

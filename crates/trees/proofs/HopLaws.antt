@@ -9,7 +9,7 @@ use mathlib.Core.Path.{◌≡◌, refl, sym, ap, ap₂, ◌∙◌}
 use mathlib.Core.Bool.{Bool, true, ◌&&◌}
 use mathlib.Core.List.{List, [], ◌∷◌, ◌++◌}
 use native.Mathlib.Omega.{arith}
-use native.Mathlib.Nat.{mul-add, mul-zero, add-zero}
+use native.Mathlib.Nat.{mul-add}
 use lib.Dec.{leb, ltb}
 use lib.ListN.{length, get_or, set, replicate, length-set, length-replicate, get_or-replicate}
 use lib.Seq.{get_or-set_same, get_or-set_other}
@@ -22,8 +22,8 @@ use Rattle.laws.proofs.Bounded.{get_in, put_out, get_other}
 use Rattle.pack.specs.Lists.{list_word, list_item}
 use Rattle.pack.specs.Named.{optional}
 use Rattle.pack.specs.declared.counts.Counts.{Counts}
-use Rattle.trees.specs.declared.notes.Kids.{Kids}
-use Rattle.trees.specs.declared.notes.Kids.TheVariants.{Items, Seconds, Arms}
+use Rattle.trees.specs.declared.kids.Kids.{Kids}
+use Rattle.trees.specs.declared.kids.Kids.TheVariants.{Items, Seconds, Arms}
 use Rattle.trees.specs.Notes.{nodes, Notes, notes, note_one, note_all, kids_at}
 use Rattle.trees.specs.Hops.{stride, kids_from, full, all_full, line, hop_at, Run, Hops, Passed, Noting}
 use Rattle.trees.proofs.NoteLaws.{by_naming, note_append}
@@ -124,21 +124,6 @@ module _ {p : List ℕ} {c : Counts} {uses : List ℕ} {kids : Kids} {j : ℕ} w
   pub run_none : Run p c uses kids j 0
   run_none = record { each_full = λ k l. absurd (omega arith); low = λ l. absurd (omega arith); small = λ l. absurd (omega arith) }
 
-  pub run_one : {b : Bool} → j < 8192 → b ≡ all_full uses (kids_from p c kids j) → b ≡ true → Run p c uses kids j 1
-  run_one h e t =
-      record {
-        each_full =
-            λ k l.
-            let z : k ≡ 0 = omega arith in
-            let q : j + stride kids * k ≡ j = ap (λ (x : ℕ). j + stride kids * x) z ∙ ap (λ (x : ℕ). j + x) (mul-zero (stride kids)) ∙ add-zero j in
-            ap (λ (x : ℕ). all_full uses (kids_from p c kids x)) q ∙ sym e ∙ t;
-        low = λ l. h;
-        small = λ l. omega arith;
-      }
-
-pub run_few : {p : List ℕ} {c : Counts} {uses : List ℕ} {kids : Kids} {j n : ℕ} → Run p c uses kids j n → n ≤ 8195
-run_few {n = n} r = by_eq n 0 (λ z. omega arith) (λ z. omega (arith, r.small (omega arith)))
-
 stride_least : (kids : Kids) (a : ℕ) → a ≤ stride kids * a
 stride_least Items a = omega arith
 stride_least Seconds a = omega arith
@@ -188,9 +173,9 @@ hops_none p c uses {hops} e =
         (λ t. hop_in hops kids j (ltb-true j 8192 t) ∙ ap (λ (l : List ℕ). get_or l (line kids + j) 0) e ∙ get_or-replicate 24576 (line kids + j) 0 0 (omega (arith, ltb-true j 8192 t, line_most kids)))
         (λ f. hop_out hops kids j (ltb-false j 8192 f))
 
-pub hops_kept : {p : List ℕ} {c : Counts} {r : Notes} {hops : List ℕ} (ks : List ℕ) (place : ℕ) (s : Notes) → Hops p c s.uses hops → r ≡ note_all ks place s → Hops p c r.uses hops
-hops_kept {p} {c} {r} {hops} ks place s h e =
-    rw e
+pub hops_kept : {p : List ℕ} {c : Counts} {r : Notes} {hops after : List ℕ} (ks : List ℕ) (place : ℕ) (s : Notes) → Hops p c s.uses hops → r ≡ note_all ks place s → after ≡ hops → Hops p c r.uses after
+hops_kept {p} {c} {r} {hops} ks place s h e same =
+    rw (e, same)
     (record {
       long = h.long;
       run =
@@ -202,8 +187,8 @@ hops_kept {p} {c} {r} {hops} ks place s h e =
           };
     })
 
-pub noting : {p : List ℕ} {c : Counts} {r : Notes} {hops : List ℕ} (ks : List ℕ) (place : ℕ) (s : Notes) → Hops p c s.uses hops → r ≡ note_all ks place s → Noting r (note_all ks place s) p c hops
-noting ks place s h e = record { is = e; kept = hops_kept ks place s h e }
+pub noting : {p : List ℕ} {c : Counts} {r : Notes} {hops after : List ℕ} (ks : List ℕ) (place : ℕ) (s : Notes) → Hops p c s.uses hops → r ≡ note_all ks place s → after ≡ hops → Noting r (note_all ks place s) p c after
+noting ks place s h e same = record { is = e; kept = hops_kept ks place s h e same }
 
 same_line : (a b : Kids) (i j : ℕ) → i < 8192 → j < 8192 → line a + i ≡ line b + j → (a ≡ b) × (i ≡ j)
 same_line Items Items i j l h e = (refl, omega arith)
@@ -234,10 +219,10 @@ hop_set {p} {c} {uses} {hops} {kids} {j} {n} {at} h r l e =
 -- ---- some items of a list passed
 
 -- one item that was noted
-pub passed_one : {p : List ℕ} {c : Counts} {kids : Kids} {s k place : ℕ} {first after : Notes} {hops : List ℕ} → Hops p c first.uses hops
-    → after ≡ note_all (kids_at p c kids s k) place first → Passed p c kids s k place first after hops 1
+pub passed_one : {p : List ℕ} {c : Counts} {kids : Kids} {s k place : ℕ} {first after : Notes} {hops hops_after : List ℕ} → Hops p c first.uses hops
+    → after ≡ note_all (kids_at p c kids s k) place first → hops_after ≡ hops → Passed p c kids s k place first after hops_after 1
 unfolding gather note_all
-passed_one {p} {c} {kids} {s} {k} {place} {first} h e =
+passed_one {p} {c} {kids} {s} {k} {place} {first} h e same =
     record {
       some = omega arith;
       few = omega arith;
@@ -245,17 +230,17 @@ passed_one {p} {c} {kids} {s} {k} {place} {first} h e =
           λ m a b.
           let z : m ≡ 1 = omega arith in
           rw z (note_append (kids_at p c kids s k) [] place first ∙ sym e);
-      kept = hops_kept (kids_at p c kids s k) place first h e;
+      kept = hops_kept (kids_at p c kids s k) place first h e same;
     }
 
 -- a run
-pub passed_run : {p : List ℕ} {c : Counts} {kids : Kids} {s k place j n : ℕ} {first : Notes} {hops : List ℕ} → Hops p c first.uses hops
-    → j ≡ s + 1 + stride kids * k → Run p c first.uses kids j n → (n ≡ 0 → ⊥) → Passed p c kids s k place first first hops n
-passed_run {p} {c} {kids} {s} {k} {place} {j} {n} {first} h e r o =
+pub passed_run : {p : List ℕ} {c : Counts} {kids : Kids} {s k place j n : ℕ} {first after : Notes} {hops : List ℕ} → after ≡ first → Hops p c after.uses hops
+    → j ≡ s + 1 + stride kids * k → Run p c first.uses kids j n → (n ≡ 0 → ⊥) → Passed p c kids s k place first after hops n
+passed_run {p} {c} {kids} {s} {k} {place} {j} {n} {first} same h e r o =
     let pos : 1 ≤ n = omega arith in
     record {
       some = pos;
       few = omega (arith, r.small pos);
-      leaves = λ m a b. run_still p c kids s k place first e r m b;
+      leaves = λ m a b. run_still p c kids s k place first e r m b ∙ sym same;
       kept = h;
     }

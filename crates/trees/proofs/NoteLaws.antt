@@ -10,7 +10,6 @@ use mathlib.Core.Bool.{Bool, true, false}
 use mathlib.Core.List.{List, [], ◌∷◌, ◌++◌}
 use native.Mathlib.Omega.{arith}
 use native.Mathlib.Numerals.{add-one}
-use native.Mathlib.Nat.{sub-zero}
 use lib.Dec.{leb, ltb}
 use lib.ListN.{length}
 use borrow.Author.Tests.{ltb-true, ltb-false, leb-true, leb-false}
@@ -141,9 +140,6 @@ place_new (k ∷ ks) place s l e h u m =
 -- a loop that notes what each place of 0 .. n - 1 names: what is left, from place i on, leaves the notes that the whole leaves
 pub record ListLeft (f : ℕ → List ℕ) (i n place : ℕ) (now first : Notes) : Type 0 where
   pub says : note_all (gather f i (n - i)) place now ≡ note_all (gather f 0 n) place first
-
-pub left_starts : (f : ℕ → List ℕ) (n place : ℕ) (s : Notes) → ListLeft f 0 n place s s
-left_starts f n place s = record { says = rw sub-zero }
 
 pub left_goes : {f : ℕ → List ℕ} {i n place : ℕ} {s r first : Notes} → ListLeft f i n place s first → i < n → r ≡ note_all (f i) place s → ListLeft f (i + 1) n place r first
 unfolding gather

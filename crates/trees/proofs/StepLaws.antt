@@ -21,7 +21,8 @@ use Rattle.pack.specs.Rows.{expression_row}
 use Rattle.pack.specs.Named.{kids_of, statements_of, operands_of}
 use Rattle.pack.specs.declared.counts.Counts.{Counts}
 use Rattle.trees.specs.Nodes.{bodies_of, uses_of, stated_of, depth_of, used_once, shallow, max_depth}
-use Rattle.trees.specs.Notes.{nodes, Notes, notes, note_all, note_row, below}
+use Rattle.trees.specs.Notes.{nodes, Notes, told, note_all, note_row, below}
+use Rattle.trees.specs.declared.notes.Notes.{Notes as Held}
 use Rattle.trees.specs.Trees.{uses_from, place_of, Trees, Clean, Noted}
 use Rattle.trees.proofs.NoteLaws.{Long, long_all, uses_are, place_kept, place_new}
 use Rattle.trees.proofs.TreeLaws.{at_row, uses_split, depth_kid, depth_body, stated_kid, stated_body, stated_most, named_later}
@@ -52,19 +53,19 @@ clear : (l : List ℕ) → l ≡ replicate nodes 0 → (e : ℕ) → e < nodes �
 clear l q e h = sym (get_in nodes l e h) ∙ ap (λ (m : List ℕ). get_or m e 0) q ∙ get_or-replicate nodes e 0 0 h
 
 module _ (p : List ℕ) (c : Counts) where
-  pub start : (uses places : List ℕ) → c.expressions ≤ nodes → Clean uses places → {s : Notes} → s ≡ note_all (bodies_of p c) 2 (notes uses places) → Noted p c c.expressions s
-  start uses places few z {s} q =
+  pub start : (held : Held) → c.expressions ≤ nodes → Clean held → {s : Notes} → s ≡ note_all (bodies_of p c) 2 (told held) → Noted p c c.expressions s
+  start held few z {s} q =
       rw q
       (record {
         low = omega arith;
         few = few;
-        long_uses = (long_all (bodies_of p c) 2 (notes uses places) long).uses;
-        long_places = (long_all (bodies_of p c) 2 (notes uses places) long).places;
-        counted = λ e h. omega (arith, uses_are (bodies_of p c) 2 (notes uses places) long e h (omega (arith, clear uses z.no_uses e h)), clear uses z.no_uses e h, from_none p c e);
-        placed = λ t e h m. place_new (bodies_of p c) 2 (notes uses places) long e (omega arith) (omega (arith, clear uses z.no_uses e (omega arith))) (omega (arith, from_none p c e)) ∙ at_root t e h (omega (arith, from_none p c e));
+        long_uses = (long_all (bodies_of p c) 2 (told held) long).uses;
+        long_places = (long_all (bodies_of p c) 2 (told held) long).places;
+        counted = λ e h. omega (arith, uses_are (bodies_of p c) 2 (told held) long e h (omega (arith, clear held.uses z.no_uses e h)), clear held.uses z.no_uses e h, from_none p c e);
+        placed = λ t e h m. place_new (bodies_of p c) 2 (told held) long e (omega arith) (omega (arith, clear held.uses z.no_uses e (omega arith))) (omega (arith, from_none p c e)) ∙ at_root t e h (omega (arith, from_none p c e));
       })
     where
-      long : Long (notes uses places)
+      long : Long (told held)
       long = record { uses = ap length z.no_uses ∙ length-replicate {A = ℕ} nodes 0; places = ap length z.no_places ∙ length-replicate {A = ℕ} nodes 0 }
 
       at_root : Trees p c → (e : ℕ) → e < c.expressions → 1 ≤ count e (bodies_of p c) → 2 ≡ place_of p c e

@@ -7,8 +7,8 @@ use Rattle.laws.specs.Lists.{gather}
 use Rattle.pack.specs.Lists.{list_word}
 use Rattle.pack.specs.Named.{optional}
 use Rattle.pack.specs.declared.counts.Counts.{Counts}
-use Rattle.trees.specs.declared.notes.Kids.{Kids}
-use Rattle.trees.specs.declared.notes.Kids.TheVariants.{Items, Seconds, Arms}
+use Rattle.trees.specs.declared.kids.Kids.{Kids}
+use Rattle.trees.specs.declared.kids.Kids.TheVariants.{Items, Seconds, Arms}
 use Rattle.trees.specs.Notes.{nodes, Notes, note_all, kids_at}
 
 -- how many words an item takes

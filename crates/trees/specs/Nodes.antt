@@ -1,14 +1,16 @@
 -- Refusals 12, 15 and 13: what holds of each expression "over all".
-use Rattle.std.specs.Prelude.{ℕ, zero, suc, Bool, true, List, [], ◌∷◌, ◌++◌, eqb, leb, ltb}
+use Rattle.std.specs.Prelude.{Ok, ℕ, zero, suc, Bool, true, List, [], ◌∷◌, ◌++◌, eqb, leb, ltb}
 use Rattle.laws.specs.Choice.{pick}
 use Rattle.laws.specs.First.{first, until}
 use Rattle.laws.specs.Lists.{count, gather}
 use Rattle.pack.specs.Rows.{expression_row, root_row}
 use Rattle.pack.specs.Named.{kids_of, statements_of}
-use Rattle.pack.specs.Answer.{refuse}
+use Rattle.pack.specs.Answer.{Reading, refuse}
 use Rattle.pack.specs.declared.counts.Counts.{Counts}
-use Rattle.pack.specs.declared.answer.Reading.{Reading}
-use Rattle.pack.specs.declared.answer.Reading.TheVariants.{Pack}
+use Rattle.laws.specs.declared.fault.Fault.{Fault}
+use Rattle.laws.specs.declared.fault.Fault.TheVariants.{NotUsedOnce, StrayLet, TooDeep}
+use Rattle.trees.specs.declared.node_test.NodeTest.{NodeTest}
+use Rattle.trees.specs.declared.node_test.NodeTest.TheVariants.{UsedOnce, LetStated, Shallow}
 
 -- the bodies of all roots
 unfoldable pub bodies_of : List ℕ → Counts → List ℕ
@@ -49,10 +51,18 @@ let_stated p c e = pick (eqb (expression_row p c e).kind 3) (leb 1 (stated_of p 
 abbrev pub shallow : List ℕ → Counts → ℕ → Bool
 shallow p c e = leb (depth_of p c e) max_depth
 
--- the test of each of these numbers
-unfoldable pub node_fits : List ℕ → Counts → ℕ → ℕ → Bool
-node_fits p c number e = pick (eqb number 12) (used_once p c e) (pick (eqb number 15) (let_stated p c e) (shallow p c e))
+-- each of these tests
+unfoldable pub node_fits : List ℕ → Counts → NodeTest → ℕ → Bool
+node_fits p c UsedOnce e = used_once p c e
+node_fits p c LetStated e = let_stated p c e
+node_fits p c Shallow e = shallow p c e
+
+-- and its refusal
+abbrev pub test_fault : NodeTest → Fault
+test_fault UsedOnce = NotUsedOnce
+test_fault LetStated = StrayLet
+test_fault Shallow = TooDeep
 
 -- "12, 13, 15: smallest such id."
-unfoldable pub nodes_of : List ℕ → Counts → ℕ → Reading
-nodes_of p c number = first (node_fits p c number) (λ e. refuse number e 0) (Pack c) 0 c.expressions
+unfoldable pub nodes_of : List ℕ → Counts → NodeTest → Reading
+nodes_of p c test = first (node_fits p c test) (λ e. refuse (test_fault test) e 0) (Ok c) 0 c.expressions

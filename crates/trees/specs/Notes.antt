@@ -7,8 +7,9 @@ use Rattle.pack.specs.Lists.{list_item}
 use Rattle.pack.specs.Named.{arm_kids, row_statements, row_operands}
 use Rattle.pack.specs.declared.counts.Counts.{Counts}
 use Rattle.pack.specs.declared.rows.ExpressionRow.{ExpressionRow}
-use Rattle.trees.specs.declared.notes.Kids.{Kids}
-use Rattle.trees.specs.declared.notes.Kids.TheVariants.{Items, Seconds, Arms}
+use Rattle.trees.specs.declared.notes.Notes.{Notes as Held}
+use Rattle.trees.specs.declared.kids.Kids.{Kids}
+use Rattle.trees.specs.declared.kids.Kids.TheVariants.{Items, Seconds, Arms}
 
 -- one note for each expression that a pack can have
 abbrev pub nodes : ℕ
@@ -20,6 +21,10 @@ pub record Notes : Type 0 where
 
 abbrev pub notes : List ℕ → List ℕ → Notes
 notes uses places = record { uses = uses; places = places }
+
+-- those that the code holds
+abbrev pub told : Held → Notes
+told held = notes held.uses held.places
 
 -- one naming of k, at a place; what was named twice is noted no more
 unfoldable pub note_one : ℕ → ℕ → Notes → Notes

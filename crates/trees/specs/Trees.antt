@@ -4,7 +4,10 @@ use Rattle.laws.specs.Bounded.{get}
 use Rattle.laws.specs.Lists.{count, In, gather}
 use Rattle.pack.specs.Named.{kids_of}
 use Rattle.pack.specs.declared.counts.Counts.{Counts}
+use Rattle.trees.specs.declared.notes.Notes.{Notes as Held}
 use Rattle.trees.specs.Nodes.{bodies_of, uses_of, stated_of, depth_of}
+use Rattle.trees.specs.declared.node_test.NodeTest.{NodeTest}
+use Rattle.trees.specs.declared.node_test.NodeTest.TheVariants.{UsedOnce}
 use Rattle.trees.specs.Notes.{nodes, Notes}
 
 -- how often the rows from i on and the roots name e
@@ -20,9 +23,10 @@ pub record Trees (p : List ℕ) (c : Counts) : Type 0 where
   pub smaller : (e k : ℕ) → e < c.expressions → In k (kids_of p c e) → k < e
   pub once : (e : ℕ) → e < c.expressions → uses_of p c e ≡ 1
 
-pub record Clean (uses places : List ℕ) : Type 0 where
-  pub no_uses : uses ≡ replicate 4096 0
-  pub no_places : places ≡ replicate 4096 0
+pub record Clean (held : Held) : Type 0 where
+  pub no_uses : held.uses ≡ replicate 4096 0
+  pub no_places : held.places ≡ replicate 4096 0
+  pub no_hops : held.hops ≡ replicate 24576 0
 
 pub record Noted (p : List ℕ) (c : Counts) (i : ℕ) (s : Notes) : Type 0 where
   pub low : i ≤ c.expressions
@@ -33,6 +37,6 @@ pub record Noted (p : List ℕ) (c : Counts) (i : ℕ) (s : Notes) : Type 0 wher
   pub placed : Trees p c → (e : ℕ) → e < c.expressions → 1 ≤ uses_from p c i e → get nodes s.places e ≡ place_of p c e
 
 -- the notes are whole, and past 12 the expressions are trees
-pub record Ready (p : List ℕ) (c : Counts) (number : ℕ) (s : Notes) : Type 0 where
+pub record Ready (p : List ℕ) (c : Counts) (test : NodeTest) (s : Notes) : Type 0 where
   pub noted : Noted p c 0 s
-  pub trees : (number ≡ 12 → ⊥) → Trees p c
+  pub trees : (test ≡ UsedOnce → ⊥) → Trees p c

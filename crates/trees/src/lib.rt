@@ -2,9 +2,10 @@
 #![tactic(auto)]
 
 mod hops;
+mod kids;
+mod node_test;
 mod notes;
 mod trees;
 
-pub use hops::Hops;
+pub use node_test::NodeTest;
 pub use notes::Notes;
-pub use trees::note_pack;

@@ -1,139 +1,100 @@
 // The walk over all rows: roots first, then expressions from the last down, so that a node's place is known before its children's.
-ghost use Rattle.std.specs.Prelude.{◌≡◌, ◌+◌, ◌*◌, ◌≤◌, ◌<◌, replicate};
+ghost use Rattle.std.specs.Prelude.{◌≡◌, ◌≤◌};
 ghost use Rattle.pack.specs.Named.{row_statements, row_operands};
 ghost use Rattle.trees.specs.Nodes.{bodies_of};
-ghost use Rattle.trees.specs.Notes.{notes, note_all, note_row, below};
+ghost use Rattle.trees.specs.Notes.{told, note_all, note_row, below};
 ghost use Rattle.trees.specs.Hops.{Hops as HopsOf, Noting};
 ghost use Rattle.trees.specs.Trees.{Clean, Noted};
 
-use crate::hops::Hops;
-use crate::notes::{Kids, Notes, note, note_list, note_optional};
+use crate::kids::Kids;
+use crate::notes::Notes;
 use pack::{Counts, ExpressionRow, expression_row, root_row};
 
 // The depth below a place, counted up to 65, one past the deepest that is allowed.
 fn depth_below(place: u8) -> u8
     ensures { result ≡ below place }
 {
-    let depth = place / 2;
-    if depth < 64 { depth + 1 } else { 65 }
+    (place / 2).min(64) + 1
 }
 
-// A block's statements.
-fn note_statements(
-    pack: &[u8],
-    c: Counts,
-    row: ExpressionRow,
-    place: u8,
-    uses: &mut [u8; Notes::CAPACITY],
-    places: &mut [u8; Notes::CAPACITY],
-    hops: &mut [u16; Hops::CAPACITY],
-)
-    requires { HopsOf pack.now c uses.old hops.old }
-    ensures { Noting (notes uses.new places.new) (note_all (row_statements pack.now c row) place (notes uses.old places.old)) pack.now c hops.new }
-{
-    if row.kind == 2 {
-        note_list(pack, c, Kids::Items, row.a, place, uses, places, hops);
+impl Notes {
+    // A block's statements.
+    fn note_statements(&mut self, pack: &[u8], c: Counts, row: ExpressionRow, place: u8)
+        requires { HopsOf pack.now c self.old.uses self.old.hops }
+        ensures { Noting (told self.new) (note_all (row_statements pack.now c row) place (told self.old)) pack.now c self.new.hops }
+    {
+        if row.kind == 2 {
+            self.note_list(pack, c, Kids::Items, row.a, place);
+        }
     }
-}
 
-// A node's other children.
-fn note_operands(
-    pack: &[u8],
-    c: Counts,
-    row: ExpressionRow,
-    place: u8,
-    uses: &mut [u8; Notes::CAPACITY],
-    places: &mut [u8; Notes::CAPACITY],
-    hops: &mut [u16; Hops::CAPACITY],
-)
-    requires { HopsOf pack.now c uses.old hops.old }
-    ensures { Noting (notes uses.new places.new) (note_all (row_operands pack.now c row) place (notes uses.old places.old)) pack.now c hops.new }
-{
-    let kind = row.kind;
-    match kind {
-        0 => {}
-        1 => {}
-        2 => {
-            note_optional(row.b, place, uses, places);
+    // A node's other children.
+    fn note_operands(&mut self, pack: &[u8], c: Counts, row: ExpressionRow, place: u8)
+        requires { HopsOf pack.now c self.old.uses self.old.hops }
+        ensures { Noting (told self.new) (note_all (row_operands pack.now c row) place (told self.old)) pack.now c self.new.hops }
+    {
+        let kind = row.kind;
+        match kind {
+            0 => {}
+            1 => {}
+            2 => {
+                self.note_optional(row.b, place);
+            }
+            3 => {
+                self.note(row.b, place);
+            }
+            4 => {
+                self.note(row.a, place);
+                self.note_list(pack, c, Kids::Arms, row.b, place);
+            }
+            5 => {
+                self.note(row.a, place);
+                self.note(row.b, place);
+            }
+            6 => {
+                self.note_list(pack, c, Kids::Seconds, row.b, place);
+            }
+            7 => {
+                self.note(row.a, place);
+            }
+            8 => {
+                self.note_optional(row.a, place);
+            }
+            _ => {}
         }
-        3 => {
-            note(row.b, place, uses, places);
-        }
-        4 => {
-            note(row.a, place, uses, places);
-            note_list(pack, c, Kids::Arms, row.b, place, uses, places, hops);
-        }
-        5 => {
-            note(row.a, place, uses, places);
-            note(row.b, place, uses, places);
-        }
-        6 => {
-            note_list(pack, c, Kids::Seconds, row.b, place, uses, places, hops);
-        }
-        7 => {
-            note(row.a, place, uses, places);
-        }
-        8 => {
-            note_optional(row.a, place, uses, places);
-        }
-        _ => {}
     }
-}
 
-// All children of a row, below a place.
-fn note_row(
-    pack: &[u8],
-    c: Counts,
-    row: ExpressionRow,
-    place: u8,
-    uses: &mut [u8; Notes::CAPACITY],
-    places: &mut [u8; Notes::CAPACITY],
-    hops: &mut [u16; Hops::CAPACITY],
-)
-    requires { HopsOf pack.now c uses.old hops.old }
-    ensures { Noting (notes uses.new places.new) (note_row pack.now c row place (notes uses.old places.old)) pack.now c hops.new }
-{
-    let depth = depth_below(place);
-    note_statements(pack, c, row, 2 * depth + 1, uses, places, hops);
-    note_operands(pack, c, row, 2 * depth, uses, places, hops);
-}
-
-// The bodies of all roots, at depth 1.
-fn note_bodies(
-    pack: &[u8],
-    c: Counts,
-    uses: &mut [u8; Notes::CAPACITY],
-    places: &mut [u8; Notes::CAPACITY],
-)
-    ensures { notes uses.new places.new ≡ note_all (bodies_of pack.now c) 2 (notes uses.old places.old) }
-{
-    let n = c.roots;
-    let mut i = 0;
-    while i < n {
-        let root = root_row(pack, c, i);
-        note(root.body, 2, uses, places);
-        i += 1;
+    // All children of a row, below a place.
+    fn note_row(&mut self, pack: &[u8], c: Counts, row: ExpressionRow, place: u8)
+        requires { HopsOf pack.now c self.old.uses self.old.hops }
+        ensures { Noting (told self.new) (note_row pack.now c row place (told self.old)) pack.now c self.new.hops }
+    {
+        let depth = depth_below(place);
+        self.note_statements(pack, c, row, 2 * depth + 1);
+        self.note_operands(pack, c, row, 2 * depth);
     }
-}
 
-// Everything that a pack names.
-pub fn note_pack(
-    pack: &[u8],
-    c: Counts,
-    uses: &mut [u8; Notes::CAPACITY],
-    places: &mut [u8; Notes::CAPACITY],
-    hops: &mut [u16; Hops::CAPACITY],
-)
-    requires { (c.expressions ≤ 4096) × Clean uses.old places.old × (hops.old ≡ replicate 24576 0) }
-    ensures { Noted pack.now c 0 (notes uses.new places.new) }
-{
-    note_bodies(pack, c, uses, places);
-    let mut i = c.expressions;
-    while 0 < i {
-        i -= 1;
-        let at = i as usize;
-        let place = places[at];
-        let row = expression_row(pack, c, i);
-        note_row(pack, c, row, place, uses, places, hops);
+    // The bodies of all roots, at depth 1.
+    fn note_bodies(&mut self, pack: &[u8], c: Counts)
+        ensures noted { told self.new ≡ note_all (bodies_of pack.now c) 2 (told self.old) }
+        ensures hops { self.new.hops ≡ self.old.hops }
+    {
+        for i in 0..c.roots {
+            let root = root_row(pack, c, i);
+            self.note(root.body, 2);
+        }
+    }
+
+    // Everything that a pack names.
+    pub fn note_pack(&mut self, pack: &[u8], c: Counts)
+        requires { (c.expressions ≤ 4096) × Clean self.old }
+        ensures { Noted pack.now c 0 (told self.new) }
+    {
+        self.note_bodies(pack, c);
+        for i in (0..c.expressions).rev() {
+            let place = self.places[i as usize];
+            let row = expression_row(pack, c, i);
+            self.note_row(pack, c, row, place);
+        }
     }
 }

@@ -27,7 +27,7 @@ use Rattle.type_cycle.specs.Leads.{over, none_of, is_record, is_variable, inside
 use Rattle.type_cycle.specs.Walks.{Held, itself, part}
 use Rattle.type_cycle.specs.Graph.{at_name, unresolved, row_ahead, ahead, Path, here, on, Reach}
 use Rattle.type_cycle.specs.Order.{Good}
-use Rattle.type_cycle.proofs.VisitLaws.{in_first, in_rest, in_left, in_right}
+use Rattle.type_cycle.proofs.VisitLaws.{unmet, in_first, in_rest, in_left, in_right}
 use Rattle.type_cycle.proofs.StepLaws.{type_ahead}
 
 -- ---- lists
@@ -196,9 +196,9 @@ module _ {p : List ℕ} {c : Counts} (g : Good p c) where
 -- ---- a path to the variable
 
 -- from a place with a mark no path goes on
-stuck : {p : List ℕ} {c : Counts} {marks : List ℕ} {x y : ℕ} → Path p c marks x y → 0 < get_or marks x 0 → x ≡ y
+stuck : {p : List ℕ} {c : Counts} {marks : List Bool} {x y : ℕ} → Path p c marks x y → get_or marks x false ≡ true → x ≡ y
 stuck here s = refl
-stuck (on e i r) s = absurd (omega arith)
+stuck (on e i r) s = unmet e s
 
 pub variable_kind : (p : List ℕ) (t : ℕ) → 7 ≤ (type_row p t).kind → (type_row p t).kind ≤ 10 → is_variable p t ≡ true
 variable_kind p t l h = rw (le-leb 7 (type_row p t).kind l, le-leb (type_row p t).kind 10 h)
@@ -209,7 +209,7 @@ pub record HoldsVariable (p : List ℕ) (c : Counts) (t : ℕ) : Type 0 where
   pub held : Held p c t row
   pub kind : is_variable p row ≡ true
 
-module _ {p : List ℕ} {c : Counts} (g : Good p c) {marks : List ℕ} (walls : (d : ℕ) → d < 512 → 0 < get_or marks (at_name d) 0) where
+module _ {p : List ℕ} {c : Counts} (g : Good p c) {marks : List Bool} (walls : (d : ℕ) → d < 512 → get_or marks (at_name d) false ≡ true) where
   variable_step : {x z y : ℕ} → x < c.types → Leading p c (type_row p x) z → Path p c marks z y → y ≡ unresolved → (z < c.types → HoldsVariable p c z) → HoldsVariable p c x
   variable_step {x} l (to_name k q) r e f =
       let a = (g.ready.rows x l).named k in

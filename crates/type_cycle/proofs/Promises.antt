@@ -13,17 +13,18 @@ use mathlib.Core.List.{List}
 use native.Mathlib.Omega.{arith}
 use lib.Dec.{leb, ltb}
 use borrow.Author.Tests.{leb-true, ltb-true, ltb-false, not-true, not-false}
+use Rattle.laws.specs.declared.fault.Fault.TheVariants as fault
+use Rattle.std.proofs.Common.{Ok}
 use Rattle.laws.specs.First.{first, until}
 use Rattle.laws.proofs.Choice.{by_test, fails, and_both}
 use Rattle.laws.proofs.First.{at_first, none_is, until_is, Until}
 use Rattle.laws.proofs.Answers.{follows, stands}
-use Rattle.pack.specs.Answer.{refuse, passes}
+use Rattle.laws.specs.Faults.{passes}
+use Rattle.pack.specs.Answer.{Reading, refuse}
 use Rattle.pack.specs.Counts.{in_limits}
 use Rattle.pack.specs.Rows.{type_row}
 use Rattle.pack.specs.Named.{field_types_of}
 use Rattle.pack.specs.declared.counts.Counts.{Counts}
-use Rattle.pack.specs.declared.answer.Reading.{Reading}
-use Rattle.pack.specs.declared.answer.Reading.TheVariants.{Pack}
 use Rattle.rows.specs.Tables.{rows_of}
 use Rattle.type_cycle.specs.Leads.{over, is_variable, inside, types_in}
 use Rattle.type_cycle.specs.Cycles.{resolved, on_cycle, unresolved_of, cycle_of, type_cycles_of}
@@ -124,13 +125,13 @@ module _ (p : List ℕ) (c : Counts) (few : in_limits c ≡ true) (o : passes (r
       })
       (sym (follows passes (unresolved_of p c) (cycle_of p c) e refl) ∙ f.is))
       (λ r. neither n (record { never = λ d l w. cycled_not d l (r.right d l) w }) (sym (follows passes (unresolved_of p c) (cycle_of p c) e refl) ∙ r.is))
-      (either (λ d. not (on_cycle p c d)) (λ d. refuse 41 d 0) (Pack c) c.definitions)
+      (either (λ d. not (on_cycle p c d)) (λ d. refuse fault.TypeCycle d 0) (Ok c) c.definitions)
 
   pub says : Says p c (type_cycles_of p c)
   unfolding unresolved_of
   says =
       ⊎_elim
-      (λ (f : Fails (resolved p c) (λ d. refuse 40 d 0) (Pack c) c.definitions).
+      (λ (f : Fails (resolved p c) (λ d. refuse fault.Unresolved d 0) (Ok c) c.definitions).
       unresolved f.at
       (record {
         inside = f.inside;
@@ -139,7 +140,7 @@ module _ (p : List ℕ) (c : Counts) (few : in_limits c ≡ true) (o : passes (r
       })
       (unfold type_cycles_of in sym (stands passes (unresolved_of p c) (cycle_of p c) (ap passes f.is) refl) ∙ f.is))
       (λ r. cycles_say (record { never = λ d l u. resolved_not d l (r.right d l) u }) (ap passes r.is))
-      (either (resolved p c) (λ d. refuse 40 d 0) (Pack c) c.definitions)
+      (either (resolved p c) (λ d. refuse fault.Unresolved d 0) (Ok c) c.definitions)
 
 -- the smallest is one
 same_first : {c : Counts} {P : ℕ → Type 0} (d e : ℕ) → First c P d → First c P e → d ≡ e
@@ -155,11 +156,11 @@ not_both : {c : Counts} {P : ℕ → Type 0} (d : ℕ) → First c P d → None 
 not_both d a n = n.never d a.inside a.holds
 
 pub only : {p : List ℕ} {c : Counts} {r q : Reading} → Says p c r → Says p c q → r ≡ q
-only (unresolved d a e) (unresolved b f h) = e ∙ ap (λ (k : ℕ). refuse 40 k 0) (same_first d b a f) ∙ sym h
+only (unresolved d a e) (unresolved b f h) = e ∙ ap (λ (k : ℕ). refuse fault.Unresolved k 0) (same_first d b a f) ∙ sym h
 only (unresolved d a e) (cyclic b n f h) = absurd (not_both d a n)
 only (unresolved d a e) (neither n m h) = absurd (not_both d a n)
 only (cyclic d n a e) (unresolved b f h) = absurd (not_both b f n)
-only (cyclic d n a e) (cyclic b m f h) = e ∙ ap (λ (k : ℕ). refuse 41 k 0) (same_first d b a f) ∙ sym h
+only (cyclic d n a e) (cyclic b m f h) = e ∙ ap (λ (k : ℕ). refuse fault.TypeCycle k 0) (same_first d b a f) ∙ sym h
 only (cyclic d n a e) (neither m f h) = absurd (not_both d a f)
 only (neither n m e) (unresolved b f h) = absurd (not_both b f n)
 only (neither n m e) (cyclic b k f h) = absurd (not_both b f m)

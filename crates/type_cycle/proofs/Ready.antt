@@ -9,7 +9,7 @@ use lib.Dec.{ltb}
 use borrow.Author.Tests.{ltb-true}
 use Rattle.laws.specs.Choice.{by_kind}
 use Rattle.laws.proofs.Choice.{tested, and_both}
-use Rattle.pack.specs.Answer.{passes}
+use Rattle.laws.specs.Faults.{passes}
 use Rattle.pack.specs.Counts.{in_limits}
 use Rattle.pack.specs.Rows.{type_row}
 use Rattle.pack.specs.declared.counts.Counts.{Counts}
@@ -30,7 +30,7 @@ named_inside p c t r e k =
 module _ (p : List ℕ) (c : Counts) (few : in_limits c ≡ true) (o : passes (rows_of p c) ≡ true) where
   ranged : (t : ℕ) → t < c.types → type_in_range p c t (type_row p t) ≡ true
   unfolding row_rule by_kind type_rule
-  ranged t l = (tested _ _ 10 (tested _ _ 9 (rule_passed p c o 0 t (omega arith) l)).1).0
+  ranged t l = (tested _ _ _ (tested _ _ _ (rule_passed p c o 0 t (omega arith) l)).1).0
 
   pub good : Good p c
   good =

@@ -9,6 +9,7 @@
 use Prim.Native.Nat.{ℕ, zero, suc, ◌+◌, ◌*◌, ◌-◌, ◌<◌, ◌≤◌, min}
 use mathlib.Core.Path.{◌≡◌, refl, ap, ◌∙◌}
 use mathlib.Core.Logic.{inl, inr, ⊎_elim}
+use mathlib.Core.Bool.{Bool}
 use mathlib.Core.List.{List, [], ◌∷◌, ◌++◌, append-nil}
 use native.Mathlib.Nat.{zero-add}
 use lib.Dec.{ltb}
@@ -69,7 +70,7 @@ put_most n l i v =
     (λ h. rw (← put_in n l i v h) (omega (arith, get_in n (set l i v) i h, set_most l i v)))
     (λ h. omega (arith, get_out n (put n l i v) i h))
 
-module _ {p : List ℕ} {c : Counts} {marks skips : List ℕ} (d : Skipped p c marks skips) where
+module _ {p : List ℕ} {c : Counts} {marks : List Bool} {skips : List ℕ} (d : Skipped p c marks skips) where
   -- a skip from item k on
   pub reaches : (items : Listed) (s k i : ℕ) → i < skip_of skips items (word_of items s k) → AllSeen marks (item_types p c items s (k + i))
   reaches items s k i l = rw (item_word p c items s (k + i), word_on items s k i) (d.done items (word_of items s k) i l)
@@ -88,7 +89,7 @@ module _ {p : List ℕ} {c : Counts} {marks skips : List ℕ} (d : Skipped p c m
       }
 
 -- an item between, by its distance
-between : (p : List ℕ) (c : Counts) (marks : List ℕ) (items : Listed) (s k j : ℕ) → k ≤ j → AllSeen marks (item_types p c items s (k + (j - k))) → AllSeen marks (item_types p c items s j)
+between : (p : List ℕ) (c : Counts) (marks : List Bool) (items : Listed) (s k j : ℕ) → k ≤ j → AllSeen marks (item_types p c items s (k + (j - k))) → AllSeen marks (item_types p c items s j)
 between p c marks items s k j l a = let e : k + (j - k) ≡ j = omega arith in rw e at a
 
 module _ (items : Listed) (s k n skip : ℕ) (skips : List ℕ) (e : skip ≡ skip_of skips items (word_of items s k)) where
@@ -111,7 +112,7 @@ module _ (items : Listed) (s k n skip : ℕ) (skips : List ℕ) (e : skip ≡ sk
         kept = λ p c marks d. rw q (put_done d items s k (skip + more) (far d));
       }
     where
-      far : {p : List ℕ} {c : Counts} {marks : List ℕ} → Skipped p c marks skips → (i : ℕ) → i < skip + more → AllSeen marks (item_types p c items s (k + i))
+      far : {p : List ℕ} {c : Counts} {marks : List Bool} → Skipped p c marks skips → (i : ℕ) → i < skip + more → AllSeen marks (item_types p c items s (k + i))
       far d i b =
           by_test (ltb i skip)
           (λ t. reaches d items s k i (omega (arith, ltb-true i skip t)))

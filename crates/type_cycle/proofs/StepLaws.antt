@@ -1,15 +1,16 @@
 -- What a definition, a type's row and a list's item lead to, in the words of the code that visits them.
 -- Assumes nothing.
-use Prim.Native.Nat.{ℕ, ◌+◌, ◌*◌, ◌-◌, ◌<◌, ◌≤◌}
-use mathlib.Core.Path.{◌≡◌, refl, sym, ap, ◌∙◌}
+use Prim.Native.Nat.{ℕ, zero, suc, ◌+◌, ◌*◌, ◌-◌, ◌<◌, ◌≤◌}
+use mathlib.Core.Path.{◌≡◌, refl, sym, ap, subst, ◌∙◌}
 use mathlib.Core.Bool.{Bool, true, false}
 use mathlib.Core.List.{List, [], ◌∷◌}
 use native.Mathlib.Omega.{arith}
 use lib.ListN.{length, get_or, set, length-set}
 use borrow.Author.Tests.{lt-ltb, le-ltb}
+use Rattle.std.proofs.lemmas.List.{set-get_or}
 use Rattle.laws.specs.Choice.{pick, by_kind}
-use Rattle.laws.specs.Lists.{count, gather}
-use Rattle.laws.proofs.Choice.{yes, no, fails, NoneOf, past_kinds}
+use Rattle.laws.specs.Lists.{gather}
+use Rattle.laws.proofs.Choice.{by_test, yes, no, fails, NoneOf, past_kinds}
 use Rattle.laws.proofs.Lists.{in_gather}
 use Rattle.laws.proofs.Members.{by_le}
 use Rattle.pack.specs.Lists.{list_len, list_item}
@@ -22,8 +23,8 @@ use Rattle.type_cycle.specs.declared.skips.Listed.{Listed}
 use Rattle.type_cycle.specs.declared.skips.Listed.TheVariants.{Types, Fields, Variants}
 use Rattle.type_cycle.specs.Graph.{at_name, unresolved, places, row_ahead, ahead, item_types, list_types, Within}
 use Rattle.type_cycle.specs.Skips.{word_in, word_of, is_variants, skip_of}
-use Rattle.type_cycle.specs.Search.{State, st, Pushes, Can, Visited}
-use Rattle.type_cycle.proofs.VisitLaws.{in_first, one_less, marked, enters, leaves, nothing}
+use Rattle.type_cycle.specs.Search.{State, st, unmarked, Pushes, Can, Visited}
+use Rattle.type_cycle.proofs.VisitLaws.{in_first, one_less, marked, already, enters, leaves, nothing}
 use Rattle.type_cycle.proofs.SkipLaws.{passes_all, visits_passed}
 
 -- ---- lists
@@ -81,9 +82,43 @@ module _ (p : List ℕ) (c : Counts) (r : TypeRow) where
   unfolding row_ahead by_kind
   name_ahead e = rw e
 
-  pub past_ahead : NoneOf r.kind 11 → [] ≡ row_ahead p c r
+quiet_row : (p : List ℕ) (c : Counts) (r : TypeRow) (kind : ℕ) → r.kind ≡ kind → (kind ≡ 4 → ⊥) → (kind ≡ 5 → ⊥) → kind < 7 → [] ≡ row_ahead p c r
+unfolding row_ahead by_kind
+quiet_row p c r zero e a b l = rw e refl
+quiet_row p c r (suc zero) e a b l = rw e refl
+quiet_row p c r (suc (suc zero)) e a b l = rw e refl
+quiet_row p c r (suc (suc (suc zero))) e a b l = rw e refl
+quiet_row p c r (suc (suc (suc (suc zero)))) e a b l = absurd (a refl)
+quiet_row p c r (suc (suc (suc (suc (suc zero))))) e a b l = absurd (b refl)
+quiet_row p c r (suc (suc (suc (suc (suc (suc zero)))))) e a b l = rw e refl
+quiet_row p c r (suc (suc (suc (suc (suc (suc (suc k))))))) e a b l = absurd (omega arith)
+
+variable_row : (p : List ℕ) (c : Counts) (r : TypeRow) (kind : ℕ) → r.kind ≡ kind → 7 ≤ kind → kind ≤ 10 → unresolved ∷ [] ≡ row_ahead p c r
+unfolding row_ahead by_kind
+variable_row p c r zero e l h = absurd (omega arith)
+variable_row p c r (suc zero) e l h = absurd (omega arith)
+variable_row p c r (suc (suc zero)) e l h = absurd (omega arith)
+variable_row p c r (suc (suc (suc zero))) e l h = absurd (omega arith)
+variable_row p c r (suc (suc (suc (suc zero)))) e l h = absurd (omega arith)
+variable_row p c r (suc (suc (suc (suc (suc zero))))) e l h = absurd (omega arith)
+variable_row p c r (suc (suc (suc (suc (suc (suc zero)))))) e l h = absurd (omega arith)
+variable_row p c r (suc (suc (suc (suc (suc (suc (suc zero))))))) e l h = rw e refl
+variable_row p c r (suc (suc (suc (suc (suc (suc (suc (suc zero)))))))) e l h = rw e refl
+variable_row p c r (suc (suc (suc (suc (suc (suc (suc (suc (suc zero))))))))) e l h = rw e refl
+variable_row p c r (suc (suc (suc (suc (suc (suc (suc (suc (suc (suc zero)))))))))) e l h = rw e refl
+variable_row p c r (suc (suc (suc (suc (suc (suc (suc (suc (suc (suc (suc k))))))))))) e l h = absurd (omega arith)
+
+module _ (p : List ℕ) (c : Counts) (r : TypeRow) where
+  -- neither a named type nor a record nor past the functions
+  pub quiet_ahead : (r.kind ≡ 4 → ⊥) → (r.kind ≡ 5 → ⊥) → r.kind < 7 → [] ≡ row_ahead p c r
+  quiet_ahead = quiet_row p c r r.kind refl
+
+  pub variables_ahead : 7 ≤ r.kind → r.kind ≤ 10 → unresolved ∷ [] ≡ row_ahead p c r
+  variables_ahead = variable_row p c r r.kind refl
+
+  pub past_ahead : 11 ≤ r.kind → [] ≡ row_ahead p c r
   unfolding row_ahead
-  past_ahead n = past_kinds r r.kind [] _ n
+  past_ahead l = past_kinds r r.kind [] _ (((((((((((tt, (λ e. omega arith)), (λ e. omega arith)), (λ e. omega arith)), (λ e. omega arith)), (λ e. omega arith)), (λ e. omega arith)), (λ e. omega arith)), (λ e. omega arith)), (λ e. omega arith)), (λ e. omega arith)), (λ e. omega arith))
 
 -- ---- places
 
@@ -102,19 +137,26 @@ unfolding ahead pick
 nothing_ahead p c = refl
 
 module _ {p : List ℕ} {c : Counts} (s : State) {u : State} where
-  pub enters_type : (t : ℕ) → t < 2048 → get_or s.marks t 0 ≡ 0 → t < length s.marks → {r : TypeRow} → r ≡ type_row p t → Visited p c (row_ahead p c r) (marked s t) u → Visited p c (t ∷ []) s u
+  pub enters_type : (t : ℕ) → t < 2048 → get_or s.marks t false ≡ false → t < length s.marks → {r : TypeRow} → r ≡ type_row p t → Visited p c (row_ahead p c r) (marked s t) u → Visited p c (t ∷ []) s u
   enters_type t l e h q v = enters s t e h (rw (ap (row_ahead p c) q ∙ type_ahead p c t l) at v) (λ d k n. omega arith)
 
-  pub leaves_name : (d : ℕ) → d < 512 → get_or s.marks (at_name d) 0 ≡ 0 → at_name d < length s.marks → {order : List ℕ} {r : ℕ} → Visited p c (field_types_of p c d) (marked s (at_name d)) u
+  pub leaves_name : (d : ℕ) → d < 512 → get_or s.marks (at_name d) false ≡ false → at_name d < length s.marks → {order : List ℕ} {r : ℕ} → Visited p c (field_types_of p c d) (marked s (at_name d)) u
       → Pushes u.left d u.order order r → Visited p c (at_name d ∷ []) s (st u.marks u.skips order r)
   leaves_name d l e h v q = leaves s d l e h (rw (fields_ahead p c d l) at v) q
 
 -- ---- marks
 
-pub mark_can : {p : List ℕ} {c : Counts} {marks : List ℕ} → Can p c marks → (x : ℕ) → Can p c (set marks x 1)
-mark_can {marks = marks} k x = record { ready = k.ready; long = length-set marks x 1 ∙ k.long }
+-- the variable has its mark, whether it was met before or not
+pub meets_variable : {p : List ℕ} {c : Counts} (s : State) → unresolved < length s.marks → Visited p c (unresolved ∷ []) s (marked s unresolved)
+meets_variable {p} {c} s h =
+    by_test (get_or s.marks unresolved false)
+    (λ t. subst (λ (m : List Bool). Visited p c (unresolved ∷ []) s (st m s.skips s.order s.left)) (sym (ap (set s.marks unresolved) (sym t) ∙ set-get_or s.marks unresolved false)) (already s unresolved t))
+    (λ f. enters s unresolved f h (subst (λ (xs : List ℕ). Visited p c xs (marked s unresolved) (marked s unresolved)) (nothing_ahead p c) (nothing (marked s unresolved))) (λ d k e. omega arith))
 
-pub mark_falls : {p : List ℕ} {c : Counts} {marks : List ℕ} → Can p c marks → (x : ℕ) → x < places → get_or marks x 0 ≡ 0 → count 0 (set marks x 1) < count 0 marks
+pub mark_can : {p : List ℕ} {c : Counts} {marks : List Bool} → Can p c marks → (x : ℕ) → Can p c (set marks x true)
+mark_can {marks = marks} k x = record { ready = k.ready; long = length-set marks x true ∙ k.long }
+
+pub mark_falls : {p : List ℕ} {c : Counts} {marks : List Bool} → Can p c marks → (x : ℕ) → x < places → get_or marks x false ≡ false → unmarked (set marks x true) < unmarked marks
 mark_falls {marks = marks} k x l e = omega (arith, one_less marks x (omega (arith, k.long)) e)
 
 pub visited_can : {p : List ℕ} {c : Counts} {xs : List ℕ} {s t : State} → Can p c s.marks → Visited p c xs s t → Can p c t.marks
@@ -156,23 +198,10 @@ unfolding list_types
 whole_list p c items s k n e l h v = let z : k ≡ list_len p c s = omega arith in rw z at v
 
 -- a list whose first skip passes all its items
-pub all_passed : (p : List ℕ) (c : Counts) (s n skip : ℕ) (skips : List ℕ) → n ≡ list_len p c s → skip ≡ skip_of skips Types (word_of Types s 0) → n ≤ skip → (marks order : List ℕ) (left : ℕ)
+pub all_passed : (p : List ℕ) (c : Counts) (s n skip : ℕ) (skips : List ℕ) → n ≡ list_len p c s → skip ≡ skip_of skips Types (word_of Types s 0) → n ≤ skip → (marks : List Bool) (order : List ℕ) (left : ℕ)
     → Visited p c (list_types p c Types s) (st marks skips order left) (st marks skips order left)
 unfolding gather
 all_passed p c s n skip skips e q h marks order left =
     by_le 1 n
     (λ some. whole_list p c Types s n n e (omega arith) (omega arith) (visits_passed p c Types s 0 (nothing (st marks skips order left)) (passes_all Types s 0 n skip skips q some (omega (arith, h)))))
     (λ none. whole_list p c Types s 0 n e (omega arith) (omega (arith, none)) (nothing (st marks skips order left)))
-
--- ---- counts that were lent
-
-module _ {p : List ℕ} {c lent : Counts} (e : lent ≡ c) where
-  pub counted : {marks : List ℕ} (d : ℕ) → d < c.definitions → Can p c marks → (d < lent.definitions) × Can p lent marks
-  counted d l k = rw e (l, k)
-
-  module _ {s t : State} where
-    pub counted_name : (d : ℕ) → Visited p lent (at_name d ∷ []) s t → Visited p c (at_name d ∷ []) s t
-    counted_name d v = rw e at v
-
-    pub counted_fields : (d : ℕ) → Visited p lent (field_types_of p lent d) s t → Visited p c (field_types_of p c d) s t
-    counted_fields d v = rw e at v

@@ -5,21 +5,24 @@
 --     enters      a place that has none, whose next places are visited then: a type or the variable
 --     leaves      the same for a definition, which is listed then
 -- Assumes nothing.
-use Prim.Native.Nat.{ℕ, zero, suc, ◌+◌, ◌<◌, ◌≤◌}
+use Prim.Native.Nat.{ℕ, suc, ◌+◌, ◌<◌, ◌≤◌}
 use mathlib.Core.Path.{◌≡◌, refl, sym, ap, ◌∙◌}
 use mathlib.Core.Logic.{◌⊎◌, inl, inr, ⊎_elim}
+use mathlib.Core.Bool.{Bool, true, false, not}
 use mathlib.Core.List.{List, [], ◌∷◌, ◌++◌}
 use native.Mathlib.Omega.{arith}
 use lib.ListN.{length, get_or, set, length-set}
 use lib.Seq.{get_or-set_same, get_or-set_other}
-use Rattle.laws.specs.Lists.{count, In}
-use Rattle.laws.proofs.Choice.{by_eq}
+use Rattle.std.specs.Prelude.{cond}
+use Rattle.std.proofs.lemmas.List.Sums.{sum_by-set}
+use Rattle.laws.specs.Lists.{In}
+use Rattle.laws.proofs.Choice.{by_eq, by_test, fails}
 use Rattle.laws.proofs.Bounded.{put_in}
 use Rattle.laws.proofs.Members.{in_subst}
 use Rattle.laws.proofs.Lists.{count_append, count_same, in_cons, in_one, in_append}
 use Rattle.pack.specs.declared.counts.Counts.{Counts}
 use Rattle.type_cycle.specs.Graph.{at_name, places, ahead, Path, here, on, Reach, Round}
-use Rattle.type_cycle.specs.Search.{State, st, Seen, AllSeen, Skipped, Pushes, Closed, left_at, Ordered, Visited}
+use Rattle.type_cycle.specs.Search.{State, st, unmarked, Seen, AllSeen, Skipped, Pushes, Closed, left_at, Ordered, Visited}
 
 -- ---- lists
 
@@ -38,33 +41,37 @@ in_right y xs ys h = omega (arith, count_append y xs ys)
 -- ---- marks
 
 -- a new mark leaves one place less without
-pub one_less : (l : List ℕ) (x : ℕ) → x < length l → get_or l x 0 ≡ 0 → count 0 l ≡ suc (count 0 (set l x 1))
-one_less [] x h e = absurd (omega arith)
-one_less (y ∷ ys) zero h e = rw e (omega arith)
-one_less (y ∷ ys) (suc x) h e = omega (arith, one_less ys x (omega arith) e)
+pub one_less : (l : List Bool) (x : ℕ) → x < length l → get_or l x false ≡ false → unmarked l ≡ suc (unmarked (set l x true))
+one_less l x h e =
+    let one : Bool → ℕ = λ b. cond (not b) 1 0 in
+    omega (arith, sum_by-set one l x true false h, ap one e)
 
-module _ (l : List ℕ) (x : ℕ) (h : x < length l) where
-  pub mark_here : Seen (set l x 1) x
-  mark_here = rw (get_or-set_same l x 1 0 h) (omega arith)
+module _ (l : List Bool) (x : ℕ) (h : x < length l) where
+  pub mark_here : Seen (set l x true) x
+  mark_here = get_or-set_same l x true false h
 
-  pub mark_keeps : (y : ℕ) → Seen l y → Seen (set l x 1) y
-  mark_keeps y s = by_eq y x (λ e. rw e mark_here) (λ n. rw (get_or-set_other l x y 1 0 n) s)
+  pub mark_keeps : (y : ℕ) → Seen l y → Seen (set l x true) y
+  mark_keeps y s = by_eq y x (λ e. rw e mark_here) (λ n. get_or-set_other l x y true false n ∙ s)
 
-  pub mark_only : (y : ℕ) → Seen (set l x 1) y → (y ≡ x) ⊎ Seen l y
-  mark_only y s = by_eq y x (λ e. inl e) (λ n. inr (rw (get_or-set_other l x y 1 0 n) at s))
+  pub mark_only : (y : ℕ) → Seen (set l x true) y → (y ≡ x) ⊎ Seen l y
+  mark_only y s = by_eq y x (λ e. inl e) (λ n. inr (sym (get_or-set_other l x y true false n) ∙ s))
 
-unseen : (l m : List ℕ) → ((x : ℕ) → Seen l x → Seen m x) → (x : ℕ) → get_or m x 0 ≡ 0 → get_or l x 0 ≡ 0
-unseen l m grow x e = by_eq (get_or l x 0) 0 (λ z. z) (λ z. absurd (omega (arith, grow x (omega arith))))
+-- a place that has no mark and one
+pub unmet : {b : Bool} {A : Type 0} → b ≡ false → b ≡ true → A
+unmet f t = absurd (fails (sym t ∙ f))
+
+unseen : (l m : List Bool) → ((x : ℕ) → Seen l x → Seen m x) → (x : ℕ) → get_or m x false ≡ false → get_or l x false ≡ false
+unseen l m grow x e = by_test (get_or l x false) (λ t. unmet e (grow x t)) (λ z. z)
 
 -- ---- paths
 
 module _ {p : List ℕ} {c : Counts} where
   -- fewer marks, more paths
-  pub weaker : {l m : List ℕ} {x y : ℕ} → ((z : ℕ) → get_or m z 0 ≡ 0 → get_or l z 0 ≡ 0) → Path p c m x y → Path p c l x y
+  pub weaker : {l m : List Bool} {x y : ℕ} → ((z : ℕ) → get_or m z false ≡ false → get_or l z false ≡ false) → Path p c m x y → Path p c l x y
   weaker f here = here
   weaker f (on {x} e i r) = on (f x e) i (weaker f r)
 
-  pub joined : {m : List ℕ} {x y z : ℕ} → Path p c m x y → Path p c m y z → Path p c m x z
+  pub joined : {m : List Bool} {x y z : ℕ} → Path p c m x y → Path p c m y z → Path p c m x z
   joined here r = r
   joined (on e i q) r = on e i (joined q r)
 
@@ -76,7 +83,7 @@ module _ {p : List ℕ} {c : Counts} where
 
 -- ---- skips
 
-pub skips_grow : {p : List ℕ} {c : Counts} {l m k : List ℕ} → ((x : ℕ) → Seen l x → Seen m x) → Skipped p c l k → Skipped p c m k
+pub skips_grow : {p : List ℕ} {c : Counts} {l m : List Bool} {k : List ℕ} → ((x : ℕ) → Seen l x → Seen m x) → Skipped p c l k → Skipped p c m k
 skips_grow grow s = record { done = λ items w j h x i. grow x (s.done items w j h x i) }
 
 -- ---- visits
@@ -94,7 +101,7 @@ module _ {p : List ℕ} {c : Counts} where
         orders = λ o k r f. r;
       }
 
-  pub already : (s : State) (x : ℕ) → (get_or s.marks x 0 ≡ 0 → ⊥) → Visited p c (x ∷ []) s s
+  pub already : (s : State) (x : ℕ) → (get_or s.marks x false ≡ true) → Visited p c (x ∷ []) s s
   already s x n =
       record {
         long = refl;
@@ -102,7 +109,7 @@ module _ {p : List ℕ} {c : Counts} where
         room = omega arith;
         grows = λ y h. h;
         sound = λ y h. inl h;
-        closes = λ o k. (k, λ y i. rw (in_one y x i) (by_eq (get_or s.marks x 0) 0 (λ e. absurd (n e)) (λ e. omega arith)));
+        closes = λ o k. (k, λ y i. rw (in_one y x i) n);
         orders = λ o k r f. r;
       }
 
@@ -131,9 +138,9 @@ module _ {p : List ℕ} {c : Counts} where
 
 -- the state in which the next places are visited
 abbrev pub marked : State → ℕ → State
-marked s x = st (set s.marks x 1) s.skips s.order s.left
+marked s x = st (set s.marks x true) s.skips s.order s.left
 
-module _ {p : List ℕ} {c : Counts} (s : State) (x : ℕ) (e : get_or s.marks x 0 ≡ 0) (h : x < length s.marks) where
+module _ {p : List ℕ} {c : Counts} (s : State) (x : ℕ) (e : get_or s.marks x false ≡ false) (h : x < length s.marks) where
   closed_in : (o : List ℕ) → Closed p c o s → Closed p c (x ∷ o) (marked s x)
   closed_in o k =
       record {
@@ -161,7 +168,7 @@ module _ {p : List ℕ} {c : Counts} (s : State) (x : ℕ) (e : get_or s.marks x
         left_seen =
             λ i l.
             let a = r.left_seen i l in
-            (a.0, mark_keeps s.marks x h (at_name (left_at s i)) a.1, λ m. ⊎_elim (λ q. omega (arith, a.1, ap (λ (z : ℕ). get_or s.marks z 0) q)) a.2 (in_cons (at_name (left_at s i)) x o m));
+            (a.0, mark_keeps s.marks x h (at_name (left_at s i)) a.1, λ m. ⊎_elim (λ q. unmet e (sym (ap (λ (z : ℕ). get_or s.marks z false) q) ∙ a.1)) a.2 (in_cons (at_name (left_at s i)) x o m));
         before = r.before;
         later = r.later;
       }
@@ -180,7 +187,7 @@ module _ {p : List ℕ} {c : Counts} (s : State) (x : ℕ) (e : get_or s.marks x
     sound_out y i =
         ⊎_elim
         (λ m. ⊎_elim (λ q. inr (x, in_first x [], rw q here)) (λ k. inl k) (mark_only s.marks x h y m))
-        (λ m. inr (x, in_first x [], on e m.1 (weaker (unseen s.marks (set s.marks x 1) (mark_keeps s.marks x h)) m.2)))
+        (λ m. inr (x, in_first x [], on e m.1 (weaker (unseen s.marks (set s.marks x true) (mark_keeps s.marks x h)) m.2)))
         (v.sound y i)
 
     closes_out : (o : List ℕ) → Closed p c o s → Closed p c o t × AllSeen t.marks (x ∷ [])
@@ -202,7 +209,7 @@ module _ {p : List ℕ} {c : Counts} (s : State) (x : ℕ) (e : get_or s.marks x
     pub enters : ((d : ℕ) → d < 512 → at_name d ≡ x → ⊥) → Visited p c (x ∷ []) s t
     enters n =
         record {
-          long = v.long ∙ length-set s.marks x 1;
+          long = v.long ∙ length-set s.marks x true;
           fewer = omega (arith, v.fewer, one_less s.marks x h e);
           room = omega (arith, v.room, one_less s.marks x h e);
           grows = λ y i. v.grows y (mark_keeps s.marks x h y i);
@@ -243,12 +250,12 @@ module _ {p : List ℕ} {c : Counts} {o : List ℕ} {t : State} (k : Closed p c 
 
 -- ---- a definition, listed when it is left
 
-module _ {p : List ℕ} {c : Counts} (s : State) (d : ℕ) (few : d < 512) (e : get_or s.marks (at_name d) 0 ≡ 0) (h : at_name d < length s.marks) {t : State} (v : Visited p c (ahead p c (at_name d)) (marked s (at_name d)) t) {order : List ℕ} {r : ℕ} (q : Pushes t.left d t.order order r) where
+module _ {p : List ℕ} {c : Counts} (s : State) (d : ℕ) (few : d < 512) (e : get_or s.marks (at_name d) false ≡ false) (h : at_name d < length s.marks) {t : State} (v : Visited p c (ahead p c (at_name d)) (marked s (at_name d)) t) {order : List ℕ} {r : ℕ} (q : Pushes t.left d t.order order r) where
   module _ (o : List ℕ) (k : Closed p c o s) (w : Ordered p c o s) (f : (g y : ℕ) → In g o → In y (at_name d ∷ []) → Reach p c g y) where
     a : Ordered p c (at_name d ∷ o) t
     a = ordered_out s (at_name d) e h v o k w f
 
-    room : t.left + 1 + count 0 t.marks ≤ places
+    room : t.left + 1 + unmarked t.marks ≤ places
     room = omega (arith, v.room, w.room, one_less s.marks (at_name d) h e)
 
     stored : order ≡ set t.order t.left d
@@ -292,7 +299,7 @@ module _ {p : List ℕ} {c : Counts} (s : State) (d : ℕ) (few : d < 512) (e : 
           left_seen =
               λ i l.
               by_eq i t.left
-              (λ z. rw (new i z) (few, v.grows (at_name d) (mark_here s.marks (at_name d) h), λ j. omega (arith, w.open_seen (at_name d) j)))
+              (λ z. rw (new i z) (few, v.grows (at_name d) (mark_here s.marks (at_name d) h), λ j. unmet e (w.open_seen (at_name d) j)))
               (λ z.
               let b = a.left_seen i (omega (arith, counted)) in
               rw (old i (omega (arith, counted))) (b.0, b.1, λ j. b.2 (in_rest (at_name (left_at t i)) (at_name d) o j)));
@@ -314,7 +321,7 @@ module _ {p : List ℕ} {c : Counts} (s : State) (d : ℕ) (few : d < 512) (e : 
   pub leaves : Visited p c (at_name d ∷ []) s (st t.marks t.skips order r)
   leaves =
       record {
-        long = v.long ∙ length-set s.marks (at_name d) 1;
+        long = v.long ∙ length-set s.marks (at_name d) true;
         fewer = omega (arith, v.fewer, one_less s.marks (at_name d) h e);
         room = omega (arith, v.room, q.most, one_less s.marks (at_name d) h e);
         grows = λ y i. v.grows y (mark_keeps s.marks (at_name d) h y i);

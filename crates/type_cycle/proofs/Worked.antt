@@ -4,19 +4,19 @@ use Prim.Native.Nat.{ℕ, ◌+◌, ◌*◌, ◌/◌, ◌%◌}
 use mathlib.Core.Path.{◌≡◌, refl}
 use mathlib.Core.List.{List, [], ◌∷◌, ◌++◌}
 use lib.ListN.{length}
+use Rattle.std.proofs.Common.{Ok, Err}
 use Rattle.laws.specs.Choice.{pick, by_kind}
 use Rattle.laws.specs.First.{walk, first}
 use Rattle.laws.specs.Lists.{gather}
 use Rattle.laws.specs.Answers.{after}
-use Rattle.pack.specs.Answer.{needs, passes}
+use Rattle.laws.specs.Faults.{passes, number_of}
+use Rattle.pack.specs.Answer.{Reading, needs}
 use Rattle.pack.specs.Counts.{in_limits}
 use Rattle.pack.specs.Header.{counts_of, header_of}
 use Rattle.pack.specs.Lists.{list_word, list_len, list_item}
 use Rattle.pack.specs.Named.{items_of, seconds_of, type_parts_of, parts_of, fields_of, field_types_of}
 use Rattle.pack.specs.Read.{byte_at, word_at, row32, row64, starts_with}
 use Rattle.pack.specs.Rows.{type_row, definition_row}
-use Rattle.pack.specs.declared.answer.Reading.{Reading}
-use Rattle.pack.specs.declared.answer.Reading.TheVariants.{Pack, Refused}
 use Rattle.rows.specs.Definitions.{definition_kind, definition_known, definition_in_range, definition_distinct, definition_rule}
 use Rattle.lists.specs.Lists.{list_fits, ids_fit, items_fit}
 use Rattle.lists.specs.Names.{names_differ}
@@ -102,8 +102,8 @@ answer p = after passes (header_of p) (after passes (rows_of p (counts_of p)) (t
 
 -- a refusal's number, place and detail; nothing where the pack is accepted
 told : Reading → List ℕ
-told (Pack c) = []
-told (Refused r) = r.number ∷ r.place ∷ r.detail ∷ []
+told (Ok c) = []
+told (Err r) = number_of r.fault ∷ r.place ∷ r.detail ∷ []
 
 tells : List (List ℕ) → List (List ℕ)
 tells [] = []

@@ -1,6 +1,6 @@
 -- What the search walks: types at 0 to 2,047, definitions from 2,048 on, and one place for an unresolved variable.
 -- A definition leads to its fields' types, a record to its parts, a named type to its definition, a variable to that place.
-use Rattle.std.specs.Prelude.{ℕ, ◌+◌, ◌*◌, ◌-◌, ◌<◌, ◌≡◌, List, [], ◌∷◌, ltb, get_or}
+use Rattle.std.specs.Prelude.{ℕ, Bool, false, ◌+◌, ◌*◌, ◌-◌, ◌<◌, ◌≡◌, List, [], ◌∷◌, ltb, get_or}
 use Rattle.laws.specs.Choice.{pick, by_kind}
 use Rattle.laws.specs.Lists.{In, gather}
 use Rattle.pack.specs.Rows.{type_row}
@@ -49,9 +49,9 @@ unfoldable pub ahead : List ℕ → Counts → ℕ → List ℕ
 ahead p c x = pick (ltb x max_types) (row_ahead p c (type_row p x)) (pick (ltb x unresolved) (field_types_of p c (x - max_types)) [])
 
 -- from x to y, where no place that is left has a mark
-pub data Path (p : List ℕ) (c : Counts) (marks : List ℕ) : ℕ → ℕ → Type 0 where
+pub data Path (p : List ℕ) (c : Counts) (marks : List Bool) : ℕ → ℕ → Type 0 where
   here : {x : ℕ} → Path p c marks x x
-  on : {x z y : ℕ} → get_or marks x 0 ≡ 0 → In z (ahead p c x) → Path p c marks z y → Path p c marks x y
+  on : {x z y : ℕ} → get_or marks x false ≡ false → In z (ahead p c x) → Path p c marks z y → Path p c marks x y
 
 -- from x to y by any places
 abbrev pub Reach : List ℕ → Counts → ℕ → ℕ → Type 0

@@ -1,4 +1,3 @@
-pub mod Sizes
 pub mod Leads
 pub mod Cycles
 pub mod Walks

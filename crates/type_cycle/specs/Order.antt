@@ -1,5 +1,5 @@
 -- What the passes over all definitions promise each other.
-use Rattle.std.specs.Prelude.{ℕ, ◌<◌, ◌≤◌, ◌≡◌, true, false, List, length, get_or}
+use Rattle.std.specs.Prelude.{ℕ, Bool, ◌<◌, ◌≤◌, ◌≡◌, true, false, List, length, get_or, Option, MatchOption}
 use Rattle.laws.specs.Lists.{In}
 use Rattle.pack.specs.Named.{parts_of}
 use Rattle.pack.specs.declared.counts.Counts.{Counts}
@@ -13,7 +13,7 @@ pub record Good (p : List ℕ) (c : Counts) : Type 0 where
   pub smaller : (t u : ℕ) → t < c.types → In u (parts_of p c t) → u < t
 
 -- the first k definitions have a mark, and nothing else has
-pub record Walled (k : ℕ) (marks : List ℕ) : Type 0 where
+pub record Walled (k : ℕ) (marks : List Bool) : Type 0 where
   pub long : length marks ≡ places
   pub names : (d : ℕ) → d < k → Seen marks (at_name d)
   pub only : (x : ℕ) → Seen marks x → (d : ℕ) × (d < k) × (x ≡ at_name d)
@@ -24,15 +24,13 @@ pub record Order (p : List ℕ) (c : Counts) (order : List ℕ) (n : ℕ) : Type
   pub listed : (d : ℕ) → d < c.definitions → (i : ℕ) × (i < n) × (get_or order i 0 ≡ d)
   pub before : (i j : ℕ) → i < j → j < n → Round p c (at_name (get_or order i 0)) (at_name (get_or order j 0)) → Round p c (at_name (get_or order i 0)) (at_name (get_or order i 0))
 
--- one of the first m that lies on a cycle, or m itself where none does
 -- no definition below low lies on a cycle
 pub record NoneBelow (p : List ℕ) (c : Counts) (low : ℕ) : Type 0 where
   pub each : (d : ℕ) → d < low → on_cycle p c d ≡ false
 
-pub record Sought (p : List ℕ) (c : Counts) (m r : ℕ) : Type 0 where
-  pub most : r ≤ m
-  pub found : r < m → on_cycle p c r ≡ true
-  pub none : m ≤ r → (d : ℕ) → d < m → on_cycle p c d ≡ false
+-- one of the first m that lies on a cycle, or nothing where none does
+abbrev pub Sought : List ℕ → Counts → ℕ → Option ℕ → Type 0
+Sought p c m r = MatchOption r ((d : ℕ) → d < m → on_cycle p c d ≡ false) (λ d. (d < m) × (on_cycle p c d ≡ true))
 
 pub record Smallest (p : List ℕ) (c : Counts) (r : ℕ) : Type 0 where
   pub inside : r < c.definitions

@@ -1,13 +1,13 @@
 -- What 40 and 41 speak of, as relations: a type held through records, one step of names, and a walk of one or more steps.
 -- proofs/Promises.antt says how the definitions that compute agree with them.
 use Rattle.std.specs.Prelude.{ℕ, ◌<◌, ◌≤◌, ◌≡◌, List}
+use Rattle.laws.specs.declared.fault.Fault.TheVariants as fault
+use Rattle.std.specs.Prelude.{Ok}
 use Rattle.laws.specs.Lists.{In}
-use Rattle.pack.specs.Answer.{refuse}
+use Rattle.pack.specs.Answer.{Reading, refuse}
 use Rattle.pack.specs.Rows.{type_row}
 use Rattle.pack.specs.Named.{parts_of, field_types_of}
 use Rattle.pack.specs.declared.counts.Counts.{Counts}
-use Rattle.pack.specs.declared.answer.Reading.{Reading}
-use Rattle.pack.specs.declared.answer.Reading.TheVariants.{Pack}
 
 -- t holds u: it is u, or a record with a part that holds u
 pub data Held (p : List ℕ) (c : Counts) : ℕ → ℕ → Type 0 where
@@ -48,6 +48,6 @@ pub record None (c : Counts) (P : ℕ → Type 0) : Type 0 where
 
 -- what module 3 answers: 40 at the smallest definition with a variable in a field; else 41 at the smallest that has a walk to itself; else the counts
 pub data Says (p : List ℕ) (c : Counts) (r : Reading) : Type 0 where
-  unresolved : (d : ℕ) → First c (Unresolved p c) d → r ≡ refuse 40 d 0 → Says p c r
-  cyclic : (d : ℕ) → None c (Unresolved p c) → First c (λ e. Walk p c e e) d → r ≡ refuse 41 d 0 → Says p c r
-  neither : None c (Unresolved p c) → None c (λ e. Walk p c e e) → r ≡ Pack c → Says p c r
+  unresolved : (d : ℕ) → First c (Unresolved p c) d → r ≡ refuse fault.Unresolved d 0 → Says p c r
+  cyclic : (d : ℕ) → None c (Unresolved p c) → First c (λ e. Walk p c e e) d → r ≡ refuse fault.TypeCycle d 0 → Says p c r
+  neither : None c (Unresolved p c) → None c (λ e. Walk p c e e) → r ≡ Ok c → Says p c r

@@ -2,9 +2,8 @@
 #![tactic(auto)]
 
 mod cycles;
-mod marks;
-mod searches;
-mod sizes;
+mod readers;
+mod search;
 mod skips;
 mod visits;
 

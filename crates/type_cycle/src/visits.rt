@@ -1,205 +1,113 @@
 // The search: from a type or a definition to all that it leads to, each met once.
-ghost use Rattle.std.specs.Prelude.{◌≡◌, ◌<◌, [], ◌∷◌, length};
+ghost use Rattle.std.specs.Prelude.{◌≡◌, ◌<◌, [], ◌∷◌};
 ghost use Rattle.pack.specs.Named.{field_types_of};
 ghost use Rattle.type_cycle.specs.Graph.{at_name, row_ahead, item_types, list_types, Within, RowInside};
-ghost use Rattle.type_cycle.specs.Sizes.{counts_in};
-ghost use Rattle.type_cycle.specs.Search.{st, Can, MeetsVariable, Visited, Settled};
+ghost use Rattle.type_cycle.specs.Search.{state, Can, Visited, Settled};
 
-use crate::marks::{Listing, Marks, push};
-use crate::sizes::{Sizes, definition_of, item_of, length_of};
-use crate::skips::{Listed, Skips, is_variants, pass, set_skip, skip_at, word_in};
-use pack::{TypeRow, type_row};
+use crate::readers::{definition_of, item_of, length_of};
+use crate::search::Search;
+use crate::skips::{Listed, Skips};
+use pack::{Counts, TypeRow, type_row};
 
-// A definition: its fields, once. It is listed when it is left. n are listed before; answers how many are afterwards.
-#[cycle(visits)]
-pub fn visit_name(
-    pack: &[u8],
-    c: &[u32; Sizes::CAPACITY],
-    d: u32,
-    n: u32,
-    marks: &mut [u8; Marks::CAPACITY],
-    skips: &mut [u16; Skips::CAPACITY],
-    order: &mut [u16; Listing::CAPACITY],
-) -> u32
-    requires { (d < (counts_in c.now).definitions) × Can pack.now (counts_in c.now) marks.old }
-    ensures { Visited pack.now (counts_in c.now) (at_name d ∷ []) (st marks.old skips.old order.old n) (st marks.new skips.new order.new result) }
-{
-    let at = Marks::NAMES + (d as usize);
-    if marks[at] == 0 {
-        marks[at] = 1;
-        let m = visit_fields(pack, c, d, n, marks, skips, order);
-        push(order, m, d)
-    } else {
-        n
-    }
-}
-
-// The types of a definition's fields. Runtime and list definitions have none.
-#[cycle(visits)]
-pub fn visit_fields(
-    pack: &[u8],
-    c: &[u32; Sizes::CAPACITY],
-    d: u32,
-    n: u32,
-    marks: &mut [u8; Marks::CAPACITY],
-    skips: &mut [u16; Skips::CAPACITY],
-    order: &mut [u16; Listing::CAPACITY],
-) -> u32
-    requires { (d < (counts_in c.now).definitions) × Can pack.now (counts_in c.now) marks.old }
-    ensures { Visited pack.now (counts_in c.now) (field_types_of pack.now (counts_in c.now) d) (st marks.old skips.old order.old n) (st marks.new skips.new order.new result) }
-{
-    let row = definition_of(pack, c, d);
-    let kind = row.kind;
-    match kind {
-        0 => visit_list(pack, c, Listed::Variants, row.list, n, marks, skips, order),
-        1 => visit_list(pack, c, Listed::Fields, row.list, n, marks, skips, order),
-        _ => n,
-    }
-}
-
-// What the items of the list at s name, in their order.
-#[cycle(visits)]
-fn visit_list(
-    pack: &[u8],
-    c: &[u32; Sizes::CAPACITY],
-    items: Listed,
-    s: u32,
-    n: u32,
-    marks: &mut [u8; Marks::CAPACITY],
-    skips: &mut [u16; Skips::CAPACITY],
-    order: &mut [u16; Listing::CAPACITY],
-) -> u32
-    requires { Within (counts_in c.now) (list_types pack.now (counts_in c.now) items s) × Can pack.now (counts_in c.now) marks.old }
-    ensures { Visited pack.now (counts_in c.now) (list_types pack.now (counts_in c.now) items s) (st marks.old skips.old order.old n) (st marks.new skips.new order.new result) }
-{
-    let count = length_of(pack, c, s);
-    let mut m = n;
-    let mut k = 0;
-    while k < count {
-        let skip = skip_at(items, s, k, skips) as u32;
-        if skip == 0 {
-            m = visit_item(pack, c, items, s, k, m, marks, skips, order);
-            set_skip(items, s, k, 1, skips);
-            k += 1;
-        } else {
-            k = pass(items, s, k, skip, count, skips);
+impl Search {
+    // A definition: its fields, once. It is listed when it is left.
+    #[cycle(visits)]
+    pub fn visit_name(&mut self, pack: &[u8], c: &Counts, d: u32)
+        requires { (d < c.now.definitions) × Can pack.now c.now self.old.marks }
+        ensures { Visited pack.now c.now (at_name d ∷ []) (state self.old) (state self.new) }
+    {
+        let at = Self::NAMES + (d as usize);
+        if !self.marks[at] {
+            self.marks[at] = true;
+            self.visit_fields(pack, c, d);
+            self.order.push(d);
         }
     }
-    m
-}
 
-// Whether all types of the list at s were visited before: then there is nothing to do.
-fn is_passed(
-    pack: &[u8],
-    c: &[u32; Sizes::CAPACITY],
-    s: u32,
-    skips: &[u16; Skips::CAPACITY],
-) -> bool
-    ensures { Settled pack.now (counts_in c.now) s skips.now result }
-{
-    length_of(pack, c, s) <= (skip_at(Listed::Types, s, 0, skips) as u32)
-}
-
-// What item k names. A type is visited from here alone, so that a record in a record takes one frame of the stack.
-#[cycle(visits)]
-fn visit_item(
-    pack: &[u8],
-    c: &[u32; Sizes::CAPACITY],
-    items: Listed,
-    s: u32,
-    k: u32,
-    n: u32,
-    marks: &mut [u8; Marks::CAPACITY],
-    skips: &mut [u16; Skips::CAPACITY],
-    order: &mut [u16; Listing::CAPACITY],
-) -> u32
-    requires { (k < 65536) × Within (counts_in c.now) (item_types pack.now (counts_in c.now) items s k) × Can pack.now (counts_in c.now) marks.old }
-    ensures { Visited pack.now (counts_in c.now) (item_types pack.now (counts_in c.now) items s k) (st marks.old skips.old order.old n) (st marks.new skips.new order.new result) }
-{
-    let t = item_of(pack, c, s, word_in(items, k));
-    if is_variants(items) {
-        if is_passed(pack, c, t, skips) {
-            return n;
+    // The types of a definition's fields. Runtime and list definitions have none.
+    #[cycle(visits)]
+    pub fn visit_fields(&mut self, pack: &[u8], c: &Counts, d: u32)
+        requires { (d < c.now.definitions) × Can pack.now c.now self.old.marks }
+        ensures { Visited pack.now c.now (field_types_of pack.now c.now d) (state self.old) (state self.new) }
+    {
+        let row = definition_of(pack, c, d);
+        let kind = row.kind;
+        match kind {
+            0 => self.visit_list(pack, c, Listed::Variants, row.list),
+            1 => self.visit_list(pack, c, Listed::Fields, row.list),
+            _ => {}
         }
-        visit_list(pack, c, Listed::Types, t, n, marks, skips, order)
-    } else {
-        visit(pack, c, t, n, marks, skips, order)
+    }
+
+    // What the items of the list at s name, in their order.
+    #[cycle(visits)]
+    fn visit_list(&mut self, pack: &[u8], c: &Counts, items: Listed, s: u32)
+        requires { Within c.now (list_types pack.now c.now items s) × Can pack.now c.now self.old.marks }
+        ensures { Visited pack.now c.now (list_types pack.now c.now items s) (state self.old) (state self.new) }
+    {
+        let count = length_of(pack, c, s);
+        let mut k = 0;
+        while k < count {
+            let skip = u32::from(self.skips.at(items, s, k));
+            if skip == 0 {
+                self.visit_item(pack, c, items, s, k);
+                self.skips.set(items, s, k, 1);
+                k += 1;
+            } else {
+                k = self.skips.pass(items, s, k, skip, count);
+            }
+        }
+    }
+
+    // What item k names. A type is visited from here alone, so that a record in a record takes one frame of the stack.
+    #[cycle(visits)]
+    fn visit_item(&mut self, pack: &[u8], c: &Counts, items: Listed, s: u32, k: u32)
+        requires { (k < 65536) × Within c.now (item_types pack.now c.now items s k) × Can pack.now c.now self.old.marks }
+        ensures { Visited pack.now c.now (item_types pack.now c.now items s k) (state self.old) (state self.new) }
+    {
+        let t = item_of(pack, c, s, items.word_in(k));
+        if !items.is_variants() {
+            self.visit(pack, c, t);
+        } else if !self.skips.pass_all(pack, c, t) {
+            self.visit_list(pack, c, Listed::Types, t);
+        }
+    }
+
+    // A type, once.
+    #[cycle(visits)]
+    fn visit(&mut self, pack: &[u8], c: &Counts, t: u32)
+        requires { (t < c.now.types) × Can pack.now c.now self.old.marks }
+        ensures { Visited pack.now c.now (t ∷ []) (state self.old) (state self.new) }
+    {
+        let at = t as usize;
+        if !self.marks[at] {
+            self.marks[at] = true;
+            let row = type_row(pack, t);
+            self.visit_row(pack, c, row);
+        }
+    }
+
+    // What a type's row leads to: a named type to its definition, a record to its parts, a variable to the mark that says so.
+    #[cycle(visits)]
+    fn visit_row(&mut self, pack: &[u8], c: &Counts, row: TypeRow)
+        requires { RowInside pack.now c.now row × Can pack.now c.now self.old.marks }
+        ensures { Visited pack.now c.now (row_ahead pack.now c.now row) (state self.old) (state self.new) }
+    {
+        let kind = row.kind;
+        match kind {
+            4 => self.visit_name(pack, c, row.a),
+            5 => self.visit_list(pack, c, Listed::Fields, row.b),
+            7..=10 => self.visit_variable(),
+            _ => {}
+        }
     }
 }
 
-// A type, once.
-#[cycle(visits)]
-fn visit(
-    pack: &[u8],
-    c: &[u32; Sizes::CAPACITY],
-    t: u32,
-    n: u32,
-    marks: &mut [u8; Marks::CAPACITY],
-    skips: &mut [u16; Skips::CAPACITY],
-    order: &mut [u16; Listing::CAPACITY],
-) -> u32
-    requires { (t < (counts_in c.now).types) × Can pack.now (counts_in c.now) marks.old }
-    ensures { Visited pack.now (counts_in c.now) (t ∷ []) (st marks.old skips.old order.old n) (st marks.new skips.new order.new result) }
-{
-    let at = t as usize;
-    if marks[at] == 0 {
-        marks[at] = 1;
-        let row = type_row(pack, t);
-        visit_row(pack, c, row, n, marks, skips, order)
-    } else {
-        n
-    }
-}
-
-// What a type's row leads to: a named type to its definition, a record to its parts, a variable to the mark that says so.
-#[cycle(visits)]
-fn visit_row(
-    pack: &[u8],
-    c: &[u32; Sizes::CAPACITY],
-    row: TypeRow,
-    n: u32,
-    marks: &mut [u8; Marks::CAPACITY],
-    skips: &mut [u16; Skips::CAPACITY],
-    order: &mut [u16; Listing::CAPACITY],
-) -> u32
-    requires { RowInside pack.now (counts_in c.now) row × Can pack.now (counts_in c.now) marks.old }
-    ensures { Visited pack.now (counts_in c.now) (row_ahead pack.now (counts_in c.now) row) (st marks.old skips.old order.old n) (st marks.new skips.new order.new result) }
-{
-    let kind = row.kind;
-    match kind {
-        0 => n,
-        1 => n,
-        2 => n,
-        3 => n,
-        4 => visit_name(pack, c, row.a, n, marks, skips, order),
-        5 => visit_list(pack, c, Listed::Fields, row.b, n, marks, skips, order),
-        6 => n,
-        7 => {
-            visit_variable(marks);
-            n
-        }
-        8 => {
-            visit_variable(marks);
-            n
-        }
-        9 => {
-            visit_variable(marks);
-            n
-        }
-        10 => {
-            visit_variable(marks);
-            n
-        }
-        _ => n,
-    }
-}
-
-// An unresolved variable leads no further.
-fn visit_variable(marks: &mut [u8; Marks::CAPACITY])
-    requires { length marks.old ≡ 2561 }
-    ensures { MeetsVariable marks.old marks.new }
-{
-    if marks[Marks::VARIABLE] == 0 {
-        marks[Marks::VARIABLE] = 1;
+impl Skips {
+    // Whether all types of the list at s were visited before: then there is nothing to do.
+    fn pass_all(&self, pack: &[u8], c: &Counts, s: u32) -> bool
+        ensures { Settled pack.now c.now s self.now.cells result }
+    {
+        length_of(pack, c, s) <= u32::from(self.at(Listed::Types, s, 0))
     }
 }

@@ -9,7 +9,7 @@ use mathlib.Core.Path.{◌≡◌, sym, ◌∙◌}
 use mathlib.Core.List.{List}
 use mathlib.Core.Bool.{Bool}
 use Prim.Native.Nat.{ℕ}
-use Rattle.unionfind.specs.declared.answer.Answer.{Answer}
+use Rattle.unionfind.specs.Answers.{Answer}
 use Rattle.unify.specs.Classes.{is_int, is_numeric}
 use Rattle.unify.specs.Unify.{Resolves, plan_of, Unifies}
 use Rattle.unify.specs.declared.plan.Plan.{Plan}

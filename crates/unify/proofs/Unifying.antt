@@ -15,9 +15,8 @@ use Rattle.laws.specs.Choice.{pick}
 use Rattle.laws.proofs.Choice.{yes, no, by_test}
 use Rattle.unionfind.specs.Codes.{number, is_var}
 use Rattle.unionfind.specs.Cells.{capacity, trail, among, found, Kept, Knows, Live}
-use Rattle.unionfind.specs.Answers.{set_answer}
-use Rattle.unionfind.specs.declared.answer.Answer.{Answer}
-use Rattle.unionfind.specs.declared.answer.Answer.TheVariants.{Done}
+use Rattle.unionfind.specs.Answers.{Answer, set_answer}
+use Rattle.std.proofs.Common.{Ok}
 use Rattle.unionfind.proofs.Chains.{not_both}
 use Rattle.unionfind.proofs.Stores.{Unset, IsUnset, found_after, found_stored, end_among, sets_keep}
 use Rattle.unionfind.proofs.States.{live_set, set_done, refused_not_done}
@@ -46,13 +45,13 @@ module _ {n : ℕ} {xs : List ℕ} (l : Live n xs) {a b : ℕ} (ka : Knows n a) 
 
 -- 20 where the plan is a clash, else done
 abbrev pub verdict : ℕ → Plan → Answer
-verdict at Same = Done
+verdict at Same = Ok _
 verdict at Clash = mismatch at
-verdict at (Store v x) = Done
+verdict at (Store v x) = Ok _
 
 -- x, a resolved side, is stored into v
 module _ {n : ℕ} {ys : List ℕ} (l : Live n ys) (v x : ℕ) (h : v < n) (kx : Knows n x) (u : is_var x ≡ true → Unset ys x) where
-  pub store_done : set_answer n ys v x ≡ Done
+  pub store_done : set_answer n ys v x ≡ Ok _
   store_done = set_done v x h kx u
 
   store_live : Live n (set ys v x)
@@ -121,7 +120,7 @@ plan_verdict r at clash = refl
 plan_verdict {x = x} {y = y} r at (rightwards e) = store_done r.live (number x) y (r.left.var e) r.right r.right_unset
 plan_verdict {x = x} {y = y} r at (leftwards e) = store_done r.live (number y) x (r.right.var e) r.left r.left_unset
 
-plan_joins : {n : ℕ} {xs ys : List ℕ} {a b x y : ℕ} → Knows n a → Knows n b → Ready n xs ys a b x y → (at : ℕ) {p : Plan} → Planned x y p → verdict at p ≡ Done
+plan_joins : {n : ℕ} {xs ys : List ℕ} {a b x y : ℕ} → Knows n a → Knows n b → Ready n xs ys a b x y → (at : ℕ) {p : Plan} → Planned x y p → verdict at p ≡ Ok _
     → resolve_of (cells_after n ys p) a ≡ resolve_of (cells_after n ys p) b
 plan_joins ka kb r at (same e) d = r.from_left ∙ e ∙ sym r.from_right
 plan_joins ka kb r at clash d = absurd (refused_not_done d)
@@ -165,7 +164,7 @@ module _ {n : ℕ} {xs : List ℕ} (l : Live n xs) (marks : List ℕ) (at : ℕ)
   unfolding unify_answer
   unify_verdict = plan_verdict (ready l ka kb) at (planned marks (resolve_of xs a) (resolve_of xs b))
 
-  pub unify_joins : unify_answer n marks at xs a b ≡ Done → resolve_of (unify_cells n marks xs a b) a ≡ resolve_of (unify_cells n marks xs a b) b
+  pub unify_joins : unify_answer n marks at xs a b ≡ Ok _ → resolve_of (unify_cells n marks xs a b) a ≡ resolve_of (unify_cells n marks xs a b) b
   unfolding unify_cells
   unify_joins d = plan_joins ka kb (ready l ka kb) at (planned marks (resolve_of xs a) (resolve_of xs b)) (sym unify_verdict ∙ d)
 

@@ -1,11 +1,11 @@
 -- "2. Unify (ours). Resolve both sides." Then a plan of the two resolved sides, and what is done by it.
-use Rattle.std.specs.Prelude.{◌≡◌, List, ◌||◌, ℕ, eqb}
+use Rattle.std.specs.Prelude.{◌≡◌, List, ◌||◌, ℕ, eqb, Ok, Err}
 use Rattle.laws.specs.Choice.{pick}
 use Rattle.unionfind.specs.Codes.{tag, number, is_var, any_tag}
 use Rattle.unionfind.specs.Cells.{found, compressed, Kept, Knows, Live}
-use Rattle.unionfind.specs.Answers.{refusal, set_answer, set_cells}
-use Rattle.unionfind.specs.declared.answer.Answer.{Answer}
-use Rattle.unionfind.specs.declared.answer.Answer.TheVariants.{Done, Refused}
+use Rattle.laws.specs.Faults.{refusal}
+use Rattle.laws.specs.declared.fault.Fault.TheVariants.{Mismatch}
+use Rattle.unionfind.specs.Answers.{Answer, set_answer, set_cells}
 use Rattle.structure.specs.Types.{holds_var}
 use Rattle.unify.specs.Classes.{takes}
 use Rattle.unify.specs.declared.plan.Plan.{Plan}
@@ -13,7 +13,7 @@ use Rattle.unify.specs.declared.plan.Plan.TheVariants.{Same, Clash, Store}
 
 -- "20: types don't unify", at "the node whose rule asked"
 abbrev pub mismatch : ℕ → Answer
-mismatch at = Refused (refusal 20 at)
+mismatch at = Err (refusal Mismatch at 0)
 
 -- ---- resolving
 
@@ -54,7 +54,7 @@ plan_of marks left right =
 
 -- the answer to a plan, and the cells after it
 abbrev pub answer_to : ℕ → List ℕ → ℕ → Plan → Answer
-answer_to n xs at Same = Done
+answer_to n xs at Same = Ok _
 answer_to n xs at Clash = mismatch at
 answer_to n xs at (Store v x) = set_answer n xs v x
 

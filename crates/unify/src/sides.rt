@@ -1,23 +1,12 @@
 // Resolving a type, and unifying two.
 ghost use Rattle.std.specs.Prelude.{◌≡◌, ◌<◌};
 ghost use Rattle.unionfind.specs.Cells.{Live, Knows};
-ghost use Rattle.unify.specs.Unify.{mismatch, Resolves, Unifies};
+ghost use Rattle.unify.specs.Unify.{Resolves, Unifies};
 
 use crate::plan::{Plan, plan_for};
-use laws::Refusal;
+use laws::{Fault, Refusal};
 use structure::TypeTable;
-use unionfind::{Answer, UnionFind, find, is_var, number_of, set};
-
-// 20, at the node whose rule asked.
-fn mismatched(at: u32) -> Answer
-    ensures { result ≡ mismatch at }
-{
-    Answer::Refused(Refusal {
-        number: 20,
-        place: at,
-        detail: 0,
-    })
-}
+use unionfind::{UnionFind, find, is_var, number_of, set};
 
 // What a type stands for: a variable what is found of it, any other type itself.
 pub fn resolve_type(cells: &mut [u32; UnionFind::CAPACITY], n: u32, x: u32) -> u32
@@ -31,7 +20,7 @@ pub fn resolve_type(cells: &mut [u32; UnionFind::CAPACITY], n: u32, x: u32) -> u
     }
 }
 
-// Both sides are resolved; then the plan says what is to be done.
+// Both sides are resolved; then the plan says what is to be done. A mismatch is refused at the node whose rule asked.
 pub fn unify(
     cells: &mut [u32; UnionFind::CAPACITY],
     n: u32,
@@ -39,15 +28,15 @@ pub fn unify(
     left: u32,
     right: u32,
     at: u32,
-) -> Answer
+) -> Result<(), Refusal>
     requires { Live n cells.old × (Knows n left × Knows n right) }
     ensures { Unifies n marks.now at cells.old left right result cells.new }
 {
     let a = resolve_type(cells, n, left);
     let b = resolve_type(cells, n, right);
     match plan_for(marks, a, b) {
-        Plan::Same => Answer::Done,
-        Plan::Clash => mismatched(at),
+        Plan::Same => Ok(()),
+        Plan::Clash => Err(Refusal::at(Fault::Mismatch, at)),
         Plan::Store { cell, code } => set(cells, n, cell, code),
     }
 }

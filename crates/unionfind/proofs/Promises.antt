@@ -14,11 +14,9 @@ use lib.ListN.{set}
 use Rattle.laws.specs.Choice.{pick}
 use Rattle.unionfind.specs.Codes.{is_var}
 use Rattle.unionfind.specs.Cells.{capacity, is_link, trail_in, trail, found, LoopFree, Kept}
-use Rattle.unionfind.specs.Answers.{Empties, Finds, set_answer, Sets, Makes}
+use Rattle.unionfind.specs.Answers.{Answer, Made, Empties, Finds, set_answer, Sets, Makes}
 use Rattle.unionfind.specs.declared.codes.Kind.{Kind}
-use Rattle.unionfind.specs.declared.answer.Answer.{Answer}
-use Rattle.unionfind.specs.declared.answer.Answer.TheVariants.{Done}
-use Rattle.unionfind.specs.declared.answer.Made.{Made}
+use Rattle.std.proofs.Common.{Ok}
 use Rattle.unionfind.proofs.Stores.{IsUnset, sets_keep}
 use Rattle.unionfind.proofs.States.{done_loopfree}
 
@@ -28,7 +26,7 @@ agree f e = f.answer ∙ sym e
 pub finds_keep : {xs : List ℕ} {v r : ℕ} {ys : List ℕ} → Finds xs v r ys → Kept xs ys
 finds_keep f = f.kept
 
-pub set_keeps : {xs : List ℕ} → LoopFree xs → (n v x : ℕ) → n ≤ capacity → set_answer n xs v x ≡ Done → IsUnset xs v → (u w : ℕ) → u < capacity → w < capacity
+pub set_keeps : {xs : List ℕ} → LoopFree xs → (n v x : ℕ) → n ≤ capacity → set_answer n xs v x ≡ Ok _ → IsUnset xs v → (u w : ℕ) → u < capacity → w < capacity
     → found xs u ≡ found xs w → found (set xs v x) u ≡ found (set xs v x) w
 set_keeps s n v x m e z u w h k = sets_keep s v x (done_loopfree s n v x m e) z u w h k
 
@@ -56,6 +54,6 @@ two : List ℕ
 two = 65537 ∷ 65537 ∷ []
 
 -- 0 and 1 resolve to the same, and no longer after 0, which is set, is set to i32
-set_parts : (found two 0 ≡ found two 1) × (set_answer 2 two 0 32778 ≡ Done) × (found (set two 0 32778) 0 ≡ 32778) × (found (set two 0 32778) 1 ≡ 65537)
+set_parts : (found two 0 ≡ found two 1) × (set_answer 2 two 0 32778 ≡ Ok _) × (found (set two 0 32778) 0 ≡ 32778) × (found (set two 0 32778) 1 ≡ 65537)
 unfolding two found trail trail_in is_link is_var set_answer pick
 set_parts = (refl, refl, refl, refl)

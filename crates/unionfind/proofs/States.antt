@@ -21,18 +21,16 @@ use Rattle.laws.proofs.Members.{by_le}
 use Rattle.laws.specs.declared.refusal.Refusal.{Refusal}
 use Rattle.unionfind.specs.Codes.{number, is_var, any_tag, tag_for, own_code}
 use Rattle.unionfind.specs.Cells.{capacity, is_link, trail, found, set_all, compressed, among, Chain, stop, step, LoopFree, Knows, Live}
-use Rattle.unionfind.specs.Answers.{full, unknown, closes, selves, Empties, set_answer, if_done, set_cells, Sets, fresh_answer, Makes}
+use Rattle.unionfind.specs.Answers.{Answer, full, unknown, closes, selves, Empties, set_answer, if_done, set_cells, Sets, fresh_answer, Makes}
 use Rattle.unionfind.specs.declared.codes.Kind.{Kind}
-use Rattle.unionfind.specs.declared.answer.Answer.{Answer}
-use Rattle.unionfind.specs.declared.answer.Answer.TheVariants.{Done, Refused}
-use Rattle.unionfind.specs.declared.answer.Made.TheVariants as made
+use Rattle.std.proofs.Common.{Ok, Err}
 use Rattle.unionfind.proofs.Chains.{not_both, is_trail, linked, ended}
 use Rattle.unionfind.proofs.Stores.{link_is_var, own_no_link, store_end, store_link, compressed_kept, Unset}
 
 -- ---- set
 
 -- a refusal is not done
-pub refused_not_done : {r : Refusal} → Refused r ≡ Done → ⊥
+pub refused_not_done : {r : Refusal} → ◌≡◌ {A = Answer} (Err r) (Ok _) → ⊥
 refused_not_done e = let z : ◌≡◌ {A = ℕ} 0 1 = cc in omega arith
 
 -- what a set that was done was given
@@ -41,12 +39,12 @@ pub record Done? (n : ℕ) (xs : List ℕ) (v x : ℕ) : Type 0 where
   pub target : is_var x ≡ true → number x < n
   pub apart : is_link v x ≡ true → among v (trail xs (number x)) ≡ false
 
-pub done_known : (n : ℕ) (xs : List ℕ) (v x : ℕ) → set_answer n xs v x ≡ Done → Done? n xs v x
+pub done_known : (n : ℕ) (xs : List ℕ) (v x : ℕ) → set_answer n xs v x ≡ Ok _ → Done? n xs v x
 unfolding set_answer pick
 done_known n xs v x e = go (leb n v) refl (is_var x) refl (leb n (number x)) refl (is_link v x) refl (among v (trail xs (number x))) refl e
   where
     go : (a : Bool) → leb n v ≡ a → (b : Bool) → is_var x ≡ b → (c : Bool) → leb n (number x) ≡ c → (d : Bool) → is_link v x ≡ d → (e : Bool) → among v (trail xs (number x)) ≡ e
-        → pick a (unknown v) (pick (b && c) (unknown (number x)) (pick (d && e) (closes v) Done)) ≡ Done → Done? n xs v x
+        → pick a (unknown v) (pick (b && c) (unknown (number x)) (pick (d && e) (closes v) (Ok _))) ≡ Ok _ → Done? n xs v x
     go true p b q c r d t e u w = absurd (refused_not_done w)
     go false p true q true r d t e u w = absurd (refused_not_done w)
     go false p true q false r true t true u w = absurd (refused_not_done w)
@@ -56,7 +54,7 @@ done_known n xs v x e = go (leb n v) refl (is_var x) refl (leb n (number x)) ref
     go false p false q c r false t e u w = record { cell = leb-false n v p; target = λ y. absurd (not_both q y); apart = λ y. absurd (not_both t y) }
 
 -- a set that was done closes no loop
-pub done_loopfree : {xs : List ℕ} → LoopFree xs → (n v x : ℕ) → n ≤ capacity → set_answer n xs v x ≡ Done → LoopFree (set xs v x)
+pub done_loopfree : {xs : List ℕ} → LoopFree xs → (n v x : ℕ) → n ≤ capacity → set_answer n xs v x ≡ Ok _ → LoopFree (set xs v x)
 done_loopfree {xs = xs} s n v x m e =
     let d = done_known n xs v x e in
     by_test (is_link v x)
@@ -64,9 +62,9 @@ done_loopfree {xs = xs} s n v x m e =
     (λ l. store_end s v x (omega (arith, d.cell)) l)
 
 -- what holds of the cells where a set was refused, and where it was done, holds after it
-pub by_answer : (P : List ℕ → Type 0) (a : Answer) (new old : List ℕ) → P old → (a ≡ Done → P new) → P (if_done a new old)
-by_answer P Done new old p q = q refl
-by_answer P (Refused r) new old p q = p
+pub by_answer : (P : List ℕ → Type 0) (a : Answer) (new old : List ℕ) → P old → (a ≡ Ok _ → P new) → P (if_done a new old)
+by_answer P (Ok x) new old p q = q refl
+by_answer P (Err r) new old p q = p
 
 pub set_loopfree : {xs : List ℕ} → LoopFree xs → (n v x : ℕ) → n ≤ capacity → LoopFree (set_cells n xs v x)
 set_loopfree {xs = xs} s n v x m = by_answer LoopFree (set_answer n xs v x) (set xs v x) xs s (done_loopfree s n v x m)
@@ -74,7 +72,7 @@ set_loopfree {xs = xs} s n v x m = by_answer LoopFree (set_answer n xs v x) (set
 pub sets : {xs : List ℕ} → LoopFree xs → (n v x : ℕ) → n ≤ capacity → {r : Answer} → r ≡ set_answer n xs v x → Sets n xs v x r (if_done r (set xs v x) xs)
 sets s n v x m e = record { answer = e; cells = rw e; loopfree = rw e (set_loopfree s n v x m) }
 
-pub refuses : {xs : List ℕ} → LoopFree xs → (n v x : ℕ) → n ≤ capacity → {r : Answer} {q : Refusal} → r ≡ Refused q → Refused q ≡ set_answer n xs v x → Sets n xs v x r xs
+pub refuses : {xs : List ℕ} → LoopFree xs → (n v x : ℕ) → n ≤ capacity → {r : Answer} {q : Refusal} → r ≡ Err q → Err q ≡ set_answer n xs v x → Sets n xs v x r xs
 refuses s n v x m e a = rw e (sets s n v x m a)
 
 -- ---- what holds of every cell in use
@@ -172,7 +170,7 @@ live_fresh {n = n} {xs = xs} l t h = record {
   unused = λ u a b. get_or-set_other xs n u (own_code t n) 0 (λ e. omega arith) ∙ l.unused u (omega arith) b;
 }
 
-pub makes : {n : ℕ} {xs : List ℕ} → Live n xs → (kind : Kind) → n < capacity → Makes n xs kind (made.Code (own_code (tag_for kind) n)) (set xs n (own_code (tag_for kind) n))
+pub makes : {n : ℕ} {xs : List ℕ} → Live n xs → (kind : Kind) → n < capacity → Makes n xs kind (Ok (own_code (tag_for kind) n)) (set xs n (own_code (tag_for kind) n))
 unfolding fresh_answer pick
 makes {n = n} l kind h =
     record { answer = rw (lt-ltb n capacity h); cells = rw (lt-ltb n capacity h); live = (live_fresh l (tag_for kind) h, knows_own (tag_for kind) n h) }
@@ -249,7 +247,7 @@ unset_all {n = n} {xs = xs} u h =
 -- ---- a set that is never refused
 
 -- a variable in use is set to what is resolved
-pub set_done : {n : ℕ} {xs : List ℕ} (v x : ℕ) → v < n → Knows n x → (is_var x ≡ true → Unset xs x) → set_answer n xs v x ≡ Done
+pub set_done : {n : ℕ} {xs : List ℕ} (v x : ℕ) → v < n → Knows n x → (is_var x ≡ true → Unset xs x) → set_answer n xs v x ≡ Ok _
 unfolding set_answer
 set_done {n = n} {xs = xs} v x h k u =
     sym (no (leb n v) _ _ (lt-leb n v h) (no (is_var x && leb n (number x)) _ _ known (no (is_link v x && among v (trail xs (number x))) _ _ apart refl)))

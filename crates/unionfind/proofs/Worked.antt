@@ -8,8 +8,7 @@ use Rattle.unionfind.specs.Codes.{is_var}
 use Rattle.unionfind.specs.Cells.{is_link, trail_in, trail, found, compressed}
 use Rattle.unionfind.specs.Answers.{full, unknown, closes, set_answer, fresh_answer}
 use Rattle.unionfind.specs.declared.codes.Kind.TheVariants.{IntVar, FloatVar}
-use Rattle.unionfind.specs.declared.answer.Answer.TheVariants.{Done}
-use Rattle.unionfind.specs.declared.answer.Made.TheVariants.{Code}
+use Rattle.std.proofs.Common.{Ok}
 
 -- 0 links to 1, 1 to 2, 2 is unset; 3 is set to i32
 cells : List ℕ
@@ -22,9 +21,9 @@ worked :
     × (set_answer 4 cells 4 65541 ≡ unknown 4)
     × (set_answer 4 cells 2 65541 ≡ unknown 5)
     × (set_answer 4 cells 2 65536 ≡ closes 2)
-    × (set_answer 4 cells 2 65538 ≡ Done)
-    × (set_answer 4 cells 2 65539 ≡ Done)
-    × (fresh_answer 2047 IntVar ≡ Code 83967)
+    × (set_answer 4 cells 2 65538 ≡ Ok _)
+    × (set_answer 4 cells 2 65539 ≡ Ok _)
+    × (fresh_answer 2047 IntVar ≡ Ok 83967)
     × (fresh_answer 2048 FloatVar ≡ full)
 unfolding cells found trail trail_in compressed is_link is_var set_answer fresh_answer pick
 worked = (refl, refl, refl, refl, refl, refl, refl, refl, refl, refl)

@@ -19,10 +19,8 @@ impl UnionFind {
         ensures { Empties result.len result.cells }
     {
         let mut cells = [0u32; Self::CAPACITY];
-        let mut i = 0;
-        while i < Self::CAPACITY {
+        for i in 0..Self::CAPACITY {
             cells[i] = own_code(Kind::Var, i as u32);
-            i += 1;
         }
         Self {
             cells: cells,
@@ -36,9 +34,7 @@ pub fn unset_cells(cells: &mut [u32; UnionFind::CAPACITY], n: u32)
     requires { Live n cells.old }
     ensures { cells.new ≡ selves 0 capacity }
 {
-    let mut i: u32 = 0;
-    while i < n {
+    for i in 0..n {
         cells[i as usize] = own_code(Kind::Var, i);
-        i += 1;
     }
 }

@@ -4,8 +4,6 @@ ghost use Rattle.laws.specs.Bounded.{Reads};
 ghost use Rattle.unionfind.specs.Cells.{capacity};
 ghost use Rattle.unionfind.specs.Codes.{numbers, code, tag, number, is_var, tag_for, own_code};
 
-use laws::either;
-
 #[derive(Clone, Copy)]
 pub struct Tag {
     pub tag: u32,
@@ -60,14 +58,12 @@ pub fn number_of(x: u32) -> u32
 }
 
 // A variable's code, of whatever kind.
+#[tactic(auto, unfolding(crate::specs::Codes::is_var))]
 pub fn is_var(x: u32) -> bool
     ensures { result ≡ is_var x }
 {
     let tag = tag_of(x);
-    either(
-        either(tag == Tag::VAR, tag == Tag::INT_VAR),
-        tag == Tag::FLOAT_VAR,
-    )
+    tag == Tag::VAR || tag == Tag::INT_VAR || tag == Tag::FLOAT_VAR
 }
 
 fn tag_for(kind: Kind) -> u32

@@ -5,7 +5,7 @@ use mathlib.Core.Path.{◌≡◌, refl, sym, ap, ◌∙◌}
 use mathlib.Core.List.{List, [], ◌∷◌, ◌++◌, append_assoc}
 use native.Mathlib.Numerals.{add-one}
 use native.Mathlib.Omega.{arith}
-use lib.ListN.{length, take, drop, get_or, set, length-append, length-drop}
+use lib.ListN.{length, take, drop, get_or, set, length-append}
 use lib.Seq.{take-suc, drop-cons, set_at, length-take-le}
 use Rattle.value_cycle.specs.Area.{bytes_of, written, Writes}
 
@@ -40,9 +40,6 @@ write_start q = record { asks = q; hi = omega arith; so_far = refl }
 module _ {listed : List ℕ} {n : ℕ} {before area : List ℕ} {k : ℕ} (v : Writing listed n before area k) where
   front_length : length (bytes_of (take k listed)) ≡ 2 * k
   front_length = bytes_length (take k listed) ∙ ap (λ (m : ℕ). 2 * m) (length-take-le k listed (omega (arith, v.hi, v.asks.few, v.asks.len_listed)))
-
-  pub area_length : length area ≡ length before
-  area_length = ap length v.so_far ∙ length-append (bytes_of (take k listed)) (drop (2 * k) before) ∙ omega (arith, front_length, length-drop (2 * k) before, v.hi, v.asks.long)
 
   rest_is : k < n → drop (2 * k) before ≡ get_or before (2 * k) 0 ∷ get_or before (2 * k + 1) 0 ∷ drop (2 * (k + 1)) before
   rest_is l =

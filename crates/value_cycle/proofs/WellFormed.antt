@@ -5,7 +5,7 @@ use Prim.Native.Nat.{ℕ, ◌*◌, ◌≤◌}
 use mathlib.Core.Path.{◌≡◌}
 use mathlib.Core.List.{List}
 use lib.ListN.{length}
-use Rattle.pack.specs.declared.answer.Reading.TheVariants.{Pack}
+use Rattle.std.proofs.Common.{Ok}
 use Rattle.pack.specs.declared.counts.Counts.{Counts}
 use Rattle.rows.proofs.Promises.{refs_inside}
 use Rattle.pack.proofs.CountLaws.{limited}
@@ -19,8 +19,8 @@ use Rattle.value_cycle.proofs.Promises.{Promised, promised}
 in_range : {p : List ℕ} {c : Counts} → WellFormed p c → InRange p c
 in_range {p} {c} w = record { few = (limited c w.headed.limits).values; fits = λ a l b m. refs_inside p c w.rows_passed a b l m }
 
-pub orders : (p : List ℕ) (c : Counts) (area : List ℕ) → formed_of p ≡ Pack c → 2 * c.values ≤ length area → Orders p c area
+pub orders : (p : List ℕ) (c : Counts) (area : List ℕ) → formed_of p ≡ Ok c → 2 * c.values ≤ length area → Orders p c area
 orders p c area e l = record { in_range = in_range (well_formed p c e); long = l }
 
-pub promised_of_formed : (p : List ℕ) (c : Counts) (area : List ℕ) → formed_of p ≡ Pack c → 2 * c.values ≤ length area → Promised p c area (order_of p c area)
+pub promised_of_formed : (p : List ℕ) (c : Counts) (area : List ℕ) → formed_of p ≡ Ok c → 2 * c.values ≤ length area → Promised p c area (order_of p c area)
 promised_of_formed p c area e l = promised (orders p c area e l)

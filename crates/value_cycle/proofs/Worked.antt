@@ -6,26 +6,25 @@ use mathlib.Core.List.{List, [], ◌∷◌, map}
 use Rattle.laws.specs.Choice.{pick}
 use Rattle.laws.specs.First.{first, walk}
 use Rattle.laws.specs.Lists.{gather}
-use Rattle.pack.specs.Answer.{needs}
+use Rattle.pack.specs.Answer.{Reading, needs}
 use Rattle.pack.specs.Counts.{in_limits}
 use Rattle.pack.specs.Header.{header_of, counts_of}
 use Rattle.pack.specs.Lists.{list_word, list_len, list_item}
 use Rattle.pack.specs.Named.{items_of}
 use Rattle.pack.specs.Read.{byte_at, word_at, row32, starts_with}
 use Rattle.pack.specs.Rows.{value_row}
-use Rattle.pack.specs.declared.answer.Reading.{Reading}
-use Rattle.pack.specs.declared.answer.Reading.TheVariants.{Pack, Refused}
+use Rattle.std.proofs.Common.{Ok, Err}
 use Rattle.components.specs.Answers.{any, found, first₅₀, first₅₁, first₅₂, answer}
 use Rattle.components.specs.DepthFirst.{meet, meet_all, enter, reached}
 use Rattle.components.specs.Tarjan.{follow, follow_all, leave, strong_connect, tarjan}
 use Rattle.value_cycle.specs.Area.{bytes_of, written}
-use Rattle.value_cycle.specs.Order.{Outcome, outcome, refusal, answered, order_of}
-use Rattle.value_cycle.specs.declared.answer.Order.TheVariants as order
+use Rattle.value_cycle.specs.Order.{all_listed, Outcome, outcome, refusal, answered, order_of}
+use Rattle.laws.specs.declared.fault.Fault.TheVariants.{ReferencesItself, OnLongerCycle, ReachesContext}
 
 -- the order of the pack that was read, in an area
 abbrev pub ordered : List ℕ → List ℕ → Reading → Outcome
-ordered p area (Pack c) = order_of p c area
-ordered p area (Refused r) = outcome (order.Refused r) area
+ordered p area (Ok c) = order_of p c area
+ordered p area (Err r) = outcome (Err r) area
 
 -- the bytes of a pack, beside an area of two bytes a value and one byte more
 abbrev pub Case : Type 0
@@ -54,13 +53,13 @@ cases =
     ∷ []
 
 pub worked : map ran cases ≡ (
-    outcome order.Listed (7 ∷ [])
-    ∷ outcome (refusal 50 0) (7 ∷ 7 ∷ 7 ∷ [])
-    ∷ outcome (refusal 51 1) (7 ∷ 7 ∷ 7 ∷ 7 ∷ 7 ∷ [])
-    ∷ outcome (refusal 51 0) (7 ∷ 7 ∷ 7 ∷ 7 ∷ 7 ∷ [])
-    ∷ outcome order.Listed (0 ∷ 1 ∷ 0 ∷ 0 ∷ 7 ∷ [])
-    ∷ outcome (refusal 52 0) (7 ∷ 7 ∷ 7 ∷ 7 ∷ 7 ∷ 7 ∷ 7 ∷ [])
-    ∷ outcome (refusal 52 4) (7 ∷ 7 ∷ 7 ∷ 7 ∷ 7 ∷ 7 ∷ 7 ∷ 7 ∷ 7 ∷ 7 ∷ 7 ∷ [])
+    outcome all_listed (7 ∷ [])
+    ∷ outcome (refusal ReferencesItself 0) (7 ∷ 7 ∷ 7 ∷ [])
+    ∷ outcome (refusal OnLongerCycle 1) (7 ∷ 7 ∷ 7 ∷ 7 ∷ 7 ∷ [])
+    ∷ outcome (refusal OnLongerCycle 0) (7 ∷ 7 ∷ 7 ∷ 7 ∷ 7 ∷ [])
+    ∷ outcome all_listed (0 ∷ 1 ∷ 0 ∷ 0 ∷ 7 ∷ [])
+    ∷ outcome (refusal ReachesContext 0) (7 ∷ 7 ∷ 7 ∷ 7 ∷ 7 ∷ 7 ∷ 7 ∷ [])
+    ∷ outcome (refusal ReachesContext 4) (7 ∷ 7 ∷ 7 ∷ 7 ∷ 7 ∷ 7 ∷ 7 ∷ 7 ∷ 7 ∷ 7 ∷ 7 ∷ [])
     ∷ []
     )
 unfolding ran cases order_of answered header_of needs in_limits counts_of starts_with byte_at word_at row32 value_row list_word list_len list_item items_of gather pick first walk any found first₅₀ first₅₁ first₅₂ answer meet meet_all enter reached follow follow_all leave strong_connect tarjan bytes_of written

@@ -2,18 +2,15 @@
 ghost use Rattle.std.specs.Prelude.{◌≡◌, take};
 ghost use Rattle.value_cycle.specs.Area.{written, Writes};
 
-use tarjan::Values;
+use tarjan::Listing;
 
-pub fn write_order(listed: &[u16; Values::CAPACITY], n: u32, area: &mut [u8])
-    requires { Writes listed.now n area.old }
-    ensures { area.new ≡ written (take n listed.now) area.old }
+pub fn write_order(listing: &Listing, n: u32, area: &mut [u8])
+    requires { Writes listing.now.values n area.old }
+    ensures { area.new ≡ written (take n listing.now.values) area.old }
 {
-    let m = n as usize;
-    let mut k = 0;
-    while k < m {
-        let v = listed[k];
+    for k in 0..n as usize {
+        let v = listing.values[k];
         area[2 * k] = (v / 256) as u8;
         area[2 * k + 1] = (v % 256) as u8;
-        k += 1;
     }
 }

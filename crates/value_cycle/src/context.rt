@@ -3,12 +3,12 @@ ghost use Rattle.std.specs.Prelude.{◌≡◌, true, false, ℕ, ◌<◌};
 ghost use Rattle.laws.specs.Lists.{In};
 ghost use Rattle.pack.specs.Named.{items_of};
 ghost use Rattle.tarjan.specs.Values.{InRange};
-ghost use Rattle.value_cycle.specs.Order.{context_at};
+ghost use Rattle.value_cycle.specs.Order.{context_at, Finds};
 ghost use Rattle.value_cycle.specs.Context.{Sized, Seeks, SeeksIn, Asks};
 
 use crate::values::{CONSTANT, CONTEXT, kind_of};
 use pack::{Counts, list_item, list_len};
-use tarjan::{Values, list_of};
+use tarjan::{Listing, list_of};
 
 // Whether v is a context value or reaches one.
 // A value that was visited is asked no further. While its own references are still being asked, that alone settles nothing. But the
@@ -17,39 +17,33 @@ use tarjan::{Values, list_of};
 fn determine_uses_context(
     pack: &[u8],
     c: Counts,
-    visited: &mut [u8; Values::CAPACITY],
+    visited: &mut [bool; Listing::CAPACITY],
     v: u32,
 ) -> bool
     requires { InRange pack.now c × Sized visited.old × (v < c.values) }
     ensures { Seeks pack.now c visited.old v result visited.new }
 {
-    let seen = visited[v as usize];
-    if seen != 0 {
+    if visited[v as usize] {
         return false;
     }
-    let kind = kind_of(pack, c, v);
-    if kind == CONTEXT {
+    if kind_of(pack, c, v) == CONTEXT {
         return true;
     }
-    visited[v as usize] = 1;
-    let s = list_of(pack, c, v);
-    any_uses_context(pack, c, visited, s)
+    visited[v as usize] = true;
+    any_uses_context(pack, c, visited, list_of(pack, c, v))
 }
 
 // Whether one of the list at word s does.
 #[cycle(context)]
-fn any_uses_context(pack: &[u8], c: Counts, visited: &mut [u8; Values::CAPACITY], s: u32) -> bool
+fn any_uses_context(pack: &[u8], c: Counts, visited: &mut [bool; Listing::CAPACITY], s: u32) -> bool
     requires { InRange pack.now c × Sized visited.old × ((w : ℕ) → In w (items_of pack.now c s) → w < c.values) }
     ensures { SeeksIn pack.now c visited.old (items_of pack.now c s) result visited.new }
 {
-    let n = list_len(pack, c, s);
-    let mut k = 0;
-    while k < n {
+    for k in 0..list_len(pack, c, s) {
         let w = list_item(pack, c, s, k);
         if determine_uses_context(pack, c, visited, w) {
             return true;
         }
-        k += 1;
     }
     false
 }
@@ -59,33 +53,25 @@ fn any_uses_context(pack: &[u8], c: Counts, visited: &mut [u8; Values::CAPACITY]
 fn constant_uses_context(
     pack: &[u8],
     c: Counts,
-    visited: &mut [u8; Values::CAPACITY],
+    visited: &mut [bool; Listing::CAPACITY],
     v: u32,
 ) -> bool
     requires { InRange pack.now c × Sized visited.old × (v < c.values) }
     ensures { Asks pack.now c visited.old v result visited.new }
 {
-    let kind = kind_of(pack, c, v);
-    if kind == CONSTANT {
-        determine_uses_context(pack, c, visited, v)
-    } else {
-        false
-    }
+    kind_of(pack, c, v) == CONSTANT && determine_uses_context(pack, c, visited, v)
 }
 
-// 52: the smallest constant that reaches a context value, or how many values there are.
-pub fn context_check(pack: &[u8], c: Counts) -> u32
+// 52: the smallest constant that reaches a context value.
+pub fn context_check(pack: &[u8], c: Counts) -> Option<u32>
     requires { InRange pack.now c }
-    ensures { result ≡ context_at pack.now c }
+    ensures { Finds c.values (context_at pack.now c) (context_at pack.now c) result }
 {
-    let mut visited = [0u8; Values::CAPACITY];
-    let n = c.values;
-    let mut v = 0;
-    while v < n {
+    let mut visited = [false; Listing::CAPACITY];
+    for v in 0..c.values {
         if constant_uses_context(pack, c, &mut visited, v) {
-            return v;
+            return Some(v);
         }
-        v += 1;
     }
-    n
+    None
 }

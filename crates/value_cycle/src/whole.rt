@@ -3,34 +3,28 @@ ghost use Rattle.std.specs.Prelude.{◌≡◌, ◌<◌};
 ghost use Rattle.value_cycle.specs.Area.{Orders};
 ghost use Rattle.value_cycle.specs.Order.{outcome, order_of};
 
-use crate::answer::{Order, refused};
 use crate::area::write_order;
 use crate::context::context_check;
 use crate::recursive::{first_looped, first_self};
-use crate::values::value_at;
+use laws::{Fault, Refusal};
 use pack::Counts;
-use tarjan::{Values, tarjan};
+use tarjan::{Search, tarjan};
 
-pub fn find_compilation_order(pack: &[u8], c: Counts, area: &mut [u8]) -> Order
+pub fn find_compilation_order(pack: &[u8], c: Counts, area: &mut [u8]) -> Result<(), Refusal>
     requires { Orders pack.now c area.old }
     ensures { outcome result area.new ≡ order_of pack.now c area.old }
 {
-    let n = c.values;
-    let a = first_self(pack, c);
-    if a < n {
-        return refused(50, a);
+    if let Some(v) = first_self(pack, c) {
+        return Err(Refusal::at(Fault::ReferencesItself, v));
     }
-    let mut listed = Values::empty();
-    let mut size = Values::empty();
-    tarjan(pack, c, &mut listed.of, &mut size.of);
-    let b = first_looped(pack, c, &listed.of, &size.of);
-    if b < n {
-        return refused(51, value_at(&listed.of, b));
+    let mut search = Search::empty();
+    tarjan(pack, c, &mut search);
+    if let Some(v) = first_looped(pack, c, &search.listing) {
+        return Err(Refusal::at(Fault::OnLongerCycle, v));
     }
-    let d = context_check(pack, c);
-    if d < n {
-        return refused(52, d);
+    if let Some(v) = context_check(pack, c) {
+        return Err(Refusal::at(Fault::ReachesContext, v));
     }
-    write_order(&listed.of, n, area);
-    Order::Listed
+    write_order(&search.listing, c.values, area);
+    Ok(())
 }

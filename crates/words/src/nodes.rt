@@ -11,6 +11,7 @@ use unify::resolve_type;
 use unionfind::UnionFind;
 
 // The word of a node with that note.
+#[tactic(auto, unfolding(crate::specs::Words::word_of))]
 fn word_of(cells: &mut [u32; UnionFind::CAPACITY], n: u32, note: u32) -> u32
     requires { Live n cells.old × Knows n (code_noted note) }
     ensures { Worded n cells.old note result cells.new }

@@ -6,6 +6,7 @@ ghost use Rattle.words.specs.Notes.{nodes, note_of, code_noted, call_noted, dive
 
 use laws::flag;
 
+// The facts of a note are packed into one number of 4 bytes, since there is one for each of 4,096 nodes.
 #[derive(Drop)]
 pub struct Notes {
     pub notes: [u32; Notes::CAPACITY],
@@ -34,6 +35,7 @@ impl Notes {
     }
 }
 
+#[tactic(auto, using(crate::proofs::Noting::bit_small), unfolding(crate::specs::Notes::note_of))]
 pub fn note_of(diverges: bool, call: u32, code: u32) -> u32
     ensures { result ≡ note_of diverges call code }
 {
@@ -41,40 +43,42 @@ pub fn note_of(diverges: bool, call: u32, code: u32) -> u32
     Notes::SEEN + bit * Notes::DIVERGES + call % Notes::CALLS * Notes::CALL + code % Notes::CODES
 }
 
+#[tactic(auto, unfolding(crate::specs::Notes::code_noted))]
 pub fn code_noted(note: u32) -> u32
     ensures { result ≡ code_noted note }
 {
     note % Notes::CODES
 }
 
+#[tactic(auto, unfolding(crate::specs::Notes::call_noted))]
 pub fn call_noted(note: u32) -> u32
     ensures { result ≡ call_noted note }
 {
     note / Notes::CALL % Notes::CALLS
 }
 
+#[tactic(auto, unfolding(crate::specs::Notes::diverges_noted))]
 pub fn diverges_noted(note: u32) -> bool
     ensures { result ≡ diverges_noted note }
 {
     note / Notes::DIVERGES % 2 == 1
 }
 
+#[tactic(auto, unfolding(crate::specs::Notes::is_seen))]
 pub fn is_seen(note: u32) -> bool
     ensures { result ≡ is_seen note }
 {
     note / Notes::SEEN % 2 == 1
 }
 
+#[tactic(auto, unfolding(laws::specs::Bounded::get, laws::specs::Choice::pick))]
 pub fn note_at(notes: &[u32; Notes::CAPACITY], id: u32) -> u32
     ensures { result ≡ get nodes notes.now id }
 {
-    if (id as usize) < Notes::CAPACITY {
-        notes[id as usize]
-    } else {
-        0
-    }
+    notes.get(id as usize).copied().unwrap_or(0)
 }
 
+#[tactic(auto, unfolding(laws::specs::Bounded::put, laws::specs::Choice::pick))]
 pub fn put_note(notes: &mut [u32; Notes::CAPACITY], id: u32, note: u32)
     ensures { notes.new ≡ put nodes notes.old id note }
 {

@@ -12,6 +12,7 @@ const CALL: u32 = 536870912;
 
 const TAG: u32 = 67108864;
 
+#[tactic(auto, using(crate::proofs::Noting::bit_small), unfolding(crate::specs::Words::encode))]
 pub fn encode(diverges: bool, call: u32, x: u32) -> u32
     ensures { result ≡ encoded diverges call x }
 {

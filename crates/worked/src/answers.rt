@@ -1,37 +1,40 @@
 // Answers as document 01's numbers, so that what came can be held to what was wanted.
 ghost use Rattle.std.specs.Prelude.{◌≡◌};
-ghost use Rattle.worked.specs.Answers.{numbers_of, same};
+ghost use Rattle.worked.specs.Answers.{numbers_of};
 
-use laws::both;
-use pack::Reading;
+use laws::Refusal;
+use pack::Counts;
+use std::fmt;
 
-#[derive(Clone, Copy)]
+#[derive(Clone, Copy, PartialEq)]
 pub struct Answer {
     pub number: u64,
     pub place: u64,
     pub detail: u64,
 }
 
-pub(crate) fn numbers_of(reading: Reading) -> Answer
+impl fmt::Display for Answer {
+    fn fmt<W: fmt::Write>(&self, f: &mut fmt::Formatter<W>) -> fmt::Result {
+        let number = self.number;
+        let place = self.place;
+        let detail = self.detail;
+        write!(f, "{number} {place} {detail}")
+    }
+}
+
+pub(crate) fn numbers_of(reading: Result<Counts, Refusal>) -> Answer
     ensures { result ≡ numbers_of reading }
 {
     match reading {
-        Reading::Pack(_) => Answer {
+        Ok(_) => Answer {
             number: 0,
             place: 0,
             detail: 0,
         },
-        Reading::Refused(refusal) => Answer {
-            number: refusal.number as u64,
+        Err(refusal) => Answer {
+            number: refusal.fault.number() as u64,
             place: refusal.place as u64,
             detail: refusal.detail,
         },
     }
-}
-
-pub(crate) fn is_same(a: Answer, b: Answer) -> bool
-    ensures { result ≡ same a b }
-{
-    let place = both(a.number == b.number, a.place == b.place);
-    both(place, a.detail == b.detail)
 }

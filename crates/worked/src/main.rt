@@ -23,13 +23,9 @@
 mod answers;
 mod asks;
 mod build;
-mod lines;
-mod rising;
 mod run;
 mod state;
-mod tokens;
 
-use crate::lines::too_long;
 use crate::run::run_all;
 use std::io;
 use std::io::Read;
@@ -44,7 +40,7 @@ fn run_input(rt: &impl Print, input: &mut impl Read, text: &mut [u8; MAX_TEXT]) 
     if n < MAX_TEXT {
         run_all(rt, &text[..n])
     } else {
-        too_long(rt)
+        println!(rt; "the text is too long")
     }
 }
 

@@ -5,11 +5,23 @@ ghost use Rattle.unionfind.specs.Cells.{Knows, Live};
 use crate::answers::is_answer;
 use crate::sides::HOLDING;
 use crate::vars::{changed, more};
-use crate::wants::{NODE, changes_for, left_after, number_for, place_for, right_after};
-use laws::both;
+use crate::wants::{NODE, Want};
 use structure::TypeTable;
 use unify::{resolve_type, unify};
 use unionfind::{Kind, UnionFind, is_var, number_of};
+
+// Two types: the left and the right side.
+#[derive(Clone, Copy)]
+pub struct Pair {
+    pub left: u32,
+    pub right: u32,
+}
+
+impl Pair {
+    pub fn new(left: u32, right: u32) -> Pair {
+        Pair { left, right }
+    }
+}
 
 // Two variables of each kind.
 fn six(cells: &mut [u32; UnionFind::CAPACITY]) -> u32
@@ -28,29 +40,14 @@ fn six(cells: &mut [u32; UnionFind::CAPACITY]) -> u32
 fn knows(n: u32, x: u32) -> bool
     ensures { result ≡ true → Knows n x }
 {
-    if is_var(x) {
-        if number_of(x) < n {
-            return true;
-        }
-        return false;
-    }
-    true
+    !is_var(x) || number_of(x) < n
 }
 
-// What both sides stand for afterwards.
-fn stand_for(
-    cells: &mut [u32; UnionFind::CAPACITY],
-    n: u32,
-    left: u32,
-    right: u32,
-    a: u32,
-    b: u32,
-) -> bool
-    requires { Live n cells.old × (Knows n left × Knows n right) }
+// Whether both codes are known so.
+fn knows_both(n: u32, pair: Pair) -> bool
+    ensures { result ≡ true → (Knows n pair.left × Knows n pair.right) }
 {
-    let x = resolve_type(cells, n, left);
-    let y = resolve_type(cells, n, right);
-    both(x == a, y == b)
+    knows(n, pair.left) && knows(n, pair.right)
 }
 
 // Which rows hold a variable.
@@ -64,73 +61,49 @@ fn marked() -> [u32; TypeTable::CAPACITY] {
 fn is_wanted(
     cells: &mut [u32; UnionFind::CAPACITY],
     n: u32,
-    left: u32,
-    right: u32,
-    want: u8,
-    x: u32,
-    y: u32,
+    pair: Pair,
+    want: Want,
+    after: Pair,
 ) -> bool
-    requires { Live n cells.old × (Knows n left × Knows n right) }
+    requires { Live n cells.old × (Knows n pair.left × Knows n pair.right) }
 {
     let marks = marked();
     let before = *cells;
-    let a = unify(cells, n, &marks, left, right, NODE);
-    let answered = is_answer(a, number_for(want), place_for(want));
-    let stored = changed(&before, cells) == changes_for(want);
-    both(
-        both(answered, stored),
-        stand_for(cells, n, left, right, x, y),
-    )
+    let a = unify(cells, n, &marks, pair.left, pair.right, NODE);
+    let changes = changed(&before, cells);
+    let left = resolve_type(cells, n, pair.left);
+    let right = resolve_type(cells, n, pair.right);
+    is_answer(a, want.answer())
+        && changes == want.changes()
+        && left == after.left
+        && right == after.right
 }
 
 // The same of any two types.
-fn ask(
-    cells: &mut [u32; UnionFind::CAPACITY],
-    n: u32,
-    left: u32,
-    right: u32,
-    want: u8,
-    x: u32,
-    y: u32,
-) -> bool
+fn ask(cells: &mut [u32; UnionFind::CAPACITY], n: u32, pair: Pair, want: Want, after: Pair) -> bool
     requires { Live n cells.old }
 {
-    if knows(n, left) {
-        if knows(n, right) {
-            return is_wanted(cells, n, left, right, want, x, y);
-        }
+    if knows_both(n, pair) {
+        is_wanted(cells, n, pair, want, after)
+    } else {
+        false
     }
-    false
 }
 
 // The same in a state with two variables of each kind, all unset.
-pub(crate) fn pair(left: u32, right: u32, want: u8) -> bool {
-    let u = UnionFind::empty();
-    let mut cells = u.cells;
+pub(crate) fn unifies(pair: Pair, want: Want) -> bool {
+    let mut cells = UnionFind::empty().cells;
     let n = six(&mut cells);
-    let x = left_after(want, left, right);
-    let y = right_after(want, left, right);
-    ask(&mut cells, n, left, right, want, x, y)
+    ask(&mut cells, n, pair, want, want.after(pair))
 }
 
-// Unifies two types where they are known.
-fn join(cells: &mut [u32; UnionFind::CAPACITY], n: u32, left: u32, right: u32)
-    requires { Live n cells.old }
-    ensures { Live n cells.new }
-{
-    let marks = marked();
-    if knows(n, left) {
-        if knows(n, right) {
-            unify(cells, n, &marks, left, right, NODE);
-        }
+// In such a state a first pair is unified where both are known; then the pair is asked for.
+pub(crate) fn unifies_after(first: Pair, pair: Pair, want: Want, after: Pair) -> bool {
+    let mut cells = UnionFind::empty().cells;
+    let n = six(&mut cells);
+    if knows_both(n, first) {
+        // What it answers is not held to anything: the pair is.
+        let _ = unify(&mut cells, n, &marked(), first.left, first.right, NODE);
     }
-}
-
-// In such a state variable v is unified with a first; then the pair is asked for.
-pub(crate) fn linked(v: u32, a: u32, left: u32, right: u32, want: u8, x: u32, y: u32) -> bool {
-    let u = UnionFind::empty();
-    let mut cells = u.cells;
-    let n = six(&mut cells);
-    join(&mut cells, n, v, a);
-    ask(&mut cells, n, left, right, want, x, y)
+    ask(&mut cells, n, pair, want, after)
 }

@@ -1,134 +1,140 @@
 // The cases of unify: each kind of type on either side, with what is wanted of each pair.
-use crate::pairs::{linked, pair};
-use crate::sides::{left_code, right_code};
-use crate::tally::{Tally, begun, counted};
-use crate::vars::{coded, primitive};
-use crate::wants::{CLASH, LEFT, RIGHT, SAME, want_at};
-use unionfind::Tag;
+use crate::pairs::{Pair, unifies, unifies_after};
+use crate::sides::{KINDS, types_with};
+use crate::vars::{float_var, int_var, primitive, var};
+use crate::wants::Want;
+use stdio::Tally;
 
-// How many kinds of type are tried.
-const KINDS: u32 = 12;
+// How many primitives there are; 6 and 7 name none.
+const PRIMITIVES: usize = 18;
 
-// And how many primitives.
-const PRIMITIVES: u32 = 18;
-
-// A kind on the left beside each kind on the right.
-fn row(kind: u32, wants: &[u8], t0: Tally) -> Tally {
-    let left = left_code(kind);
-    let mut t = t0;
-    let mut i: u32 = 0;
-    while i < KINDS {
-        t = counted(t, pair(left, right_code(i), want_at(wants, i)));
-        i += 1;
+// Whether a pair is unified as a letter wants.
+fn is_as(letter: u8, left: u32, right: u32) -> bool {
+    match Want::of(letter) {
+        Some(want) => unifies(Pair::new(left, right), want),
+        None => false,
     }
-    t
 }
 
-// The table. A row for each kind on the left, a column for each on the right, both in this order: never, unit, String, i64, f64, a row that
-// is an explicit variable, another row, any-variable, integer variable, float variable, definition, a row that holds a variable.
-pub(crate) fn kinds() -> Tally {
-    let mut t = begun();
+// The table. A row for each kind on the left, a column for each on the right, both in the order of `types_with`.
+const TABLE: [&[u8; KINDS]; KINDS] = [
     // never
-    t = row(0, b"=......>....", t);
+    b"=......>....",
     // unit
-    t = row(1, b".=.....>....", t);
+    b".=.....>....",
     // String
-    t = row(2, b"..=....>....", t);
+    b"..=....>....",
     // i64
-    t = row(3, b"...=...>>...", t);
+    b"...=...>>...",
     // f64
-    t = row(4, b"....=..>.>..", t);
+    b"....=..>.>..",
     // a row that is an explicit variable
-    t = row(5, b".....=.>....", t);
+    b".....=.>....",
     // another row
-    t = row(6, b"......=>....", t);
+    b"......=>....",
     // any-variable
-    t = row(7, b"<<<<<<<<<<<.", t);
+    b"<<<<<<<<<<<.",
     // integer variable
-    t = row(8, b"...<...><...", t);
+    b"...<...><...",
     // float variable
-    t = row(9, b"....<..>.<..", t);
+    b"....<..>.<..",
     // definition
-    t = row(10, b".......>..=.", t);
+    b".......>..=.",
     // a row that holds a variable
-    t = row(11, b"...........=", t);
-    t
+    b"...........=",
+];
+
+// The variables on the left are not those on the right.
+pub(crate) fn kinds() -> Tally {
+    let lefts = types_with(0, 2, 4);
+    let rights = types_with(1, 3, 5);
+    let mut tally = Tally::none();
+    for (left, letters) in lefts.iter().zip(TABLE) {
+        for (right, letter) in rights.iter().zip(letters) {
+            tally.count(is_as(*letter, *left, *right));
+        }
+    }
+    tally
 }
 
-// A type on the left beside each primitive on the right, 0 to 17 (6 and 7 name none), and the other way round.
-fn primitives(x: u32, lefts: &[u8], rights: &[u8], t0: Tally) -> Tally {
-    let mut t = t0;
-    let mut i: u32 = 0;
-    while i < PRIMITIVES {
-        t = counted(t, pair(x, primitive(i), want_at(lefts, i)));
-        t = counted(t, pair(primitive(i), x, want_at(rights, i)));
-        i += 1;
+// A type on the left beside each primitive on the right, and the other way round.
+fn primitives(x: u32, lefts: &[u8; PRIMITIVES], rights: &[u8; PRIMITIVES], tally: &mut Tally) {
+    for (k, (left, right)) in (0..).zip(lefts.iter().zip(rights)) {
+        tally.count(is_as(*left, x, primitive(k)));
+        tally.count(is_as(*right, primitive(k), x));
     }
-    t
 }
 
 // An integer variable takes 8 to 15, a float variable 16 and 17, and an any-variable all.
 pub(crate) fn numbers() -> Tally {
-    let mut t = begun();
-    t = primitives(
-        coded(Tag::INT_VAR, 2),
+    let mut tally = Tally::none();
+    primitives(
+        int_var(2),
         b"........<<<<<<<<..",
         b"........>>>>>>>>..",
-        t,
+        &mut tally,
     );
-    t = primitives(
-        coded(Tag::FLOAT_VAR, 4),
+    primitives(
+        float_var(4),
         b"................<<",
         b"................>>",
-        t,
+        &mut tally,
     );
-    t = primitives(
-        coded(Tag::VAR, 0),
+    primitives(
+        var(0),
         b"<<<<<<<<<<<<<<<<<<",
         b">>>>>>>>>>>>>>>>>>",
-        t,
+        &mut tally,
     );
-    t
+    tally
 }
 
 // A variable beside itself.
 pub(crate) fn selves() -> Tally {
-    let any = coded(Tag::VAR, 0);
-    let int = coded(Tag::INT_VAR, 2);
-    let float = coded(Tag::FLOAT_VAR, 4);
-    let mut t = begun();
-    t = counted(t, pair(any, any, SAME));
-    t = counted(t, pair(int, int, SAME));
-    t = counted(t, pair(float, float, SAME));
-    t
+    let mut tally = Tally::none();
+    for x in [var(0), int_var(2), float_var(4)] {
+        tally.count(unifies(Pair::new(x, x), Want::Same));
+    }
+    tally
 }
+
+// Two that are unified first, the pair that is then asked for, what is wanted of it, and what its sides then stand for.
+type Link = ((u32, u32), (u32, u32), Want, (u32, u32));
 
 // Sides that are resolved first: any-variables 0 and 1, integer variables 2 and 3.
 pub(crate) fn links() -> Tally {
-    let v0 = coded(Tag::VAR, 0);
-    let v1 = coded(Tag::VAR, 1);
-    let i2 = coded(Tag::INT_VAR, 2);
-    let i3 = coded(Tag::INT_VAR, 3);
+    let v0 = var(0);
+    let v1 = var(1);
+    let i2 = int_var(2);
+    let i3 = int_var(3);
     let i64 = primitive(11);
     let f64 = primitive(17);
-    let mut t = begun();
-    // the end of the link is set, and not the variable that is named
-    t = counted(t, linked(v0, v1, v0, i64, LEFT, i64, i64));
-    t = counted(t, linked(v0, v1, i64, v0, RIGHT, i64, i64));
-    t = counted(t, linked(i2, i3, i2, i64, LEFT, i64, i64));
-    // both sides have the same end
-    t = counted(t, linked(v0, v1, v1, v0, SAME, v1, v1));
-    // a variable that is set is what it is set to
-    t = counted(
-        t,
-        linked(v0, i64, v0, primitive(0), CLASH, i64, primitive(0)),
-    );
-    t = counted(t, linked(v0, i64, i2, v0, LEFT, i64, i64));
-    t = counted(t, linked(v0, i64, v0, i2, RIGHT, i64, i64));
-    t = counted(t, linked(v0, i64, v0, i64, SAME, i64, i64));
-    // an any-variable that is set to an integer variable takes no float
-    t = counted(t, linked(v0, i2, v0, f64, CLASH, i2, f64));
-    t = counted(t, linked(v0, i2, f64, v0, CLASH, f64, i2));
-    t = counted(t, linked(v0, i2, v1, v0, LEFT, i2, i2));
-    t
+    let string = primitive(0);
+    let cases: [Link; 11] = [
+        // the end of the link is set, and not the variable that is named
+        ((v0, v1), (v0, i64), Want::Left, (i64, i64)),
+        ((v0, v1), (i64, v0), Want::Right, (i64, i64)),
+        ((i2, i3), (i2, i64), Want::Left, (i64, i64)),
+        // both sides have the same end
+        ((v0, v1), (v1, v0), Want::Same, (v1, v1)),
+        // a variable that is set is what it is set to
+        ((v0, i64), (v0, string), Want::Clash, (i64, string)),
+        ((v0, i64), (i2, v0), Want::Left, (i64, i64)),
+        ((v0, i64), (v0, i2), Want::Right, (i64, i64)),
+        ((v0, i64), (v0, i64), Want::Same, (i64, i64)),
+        // an any-variable that is set to an integer variable takes no float
+        ((v0, i2), (v0, f64), Want::Clash, (i2, f64)),
+        ((v0, i2), (f64, v0), Want::Clash, (f64, i2)),
+        ((v0, i2), (v1, v0), Want::Left, (i2, i2)),
+    ];
+    let mut tally = Tally::none();
+    for (first, pair, want, after) in cases {
+        tally.count(unifies_after(
+            Pair::new(first.0, first.1),
+            Pair::new(pair.0, pair.1),
+            want,
+            Pair::new(after.0, after.1),
+        ));
+    }
+    tally
 }

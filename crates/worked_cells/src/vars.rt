@@ -1,21 +1,45 @@
 // Codes of types, and variables to try on.
 ghost use Rattle.unionfind.specs.Cells.{Live};
 
-use crate::tally::one_more;
-use unionfind::{Kind, Made, Tag, UnionFind, code_of, fresh};
+use unionfind::{Kind, Tag, UnionFind, code_of, fresh};
 
 // A code, total: the tags and numbers that are asked for are all in range.
-pub(crate) fn coded(tag: u32, k: u32) -> u32 {
+fn coded(tag: u32, k: u32) -> u32 {
     code_of(tag % 8, k % Tag::NUMBERS)
 }
 
-// The codes of variable k and of primitive k.
+// The codes of any-variable k, and of the integer and the float variable k.
 pub(crate) fn var(k: u32) -> u32 {
     coded(Tag::VAR, k)
 }
 
+pub(crate) fn int_var(k: u32) -> u32 {
+    coded(Tag::INT_VAR, k)
+}
+
+pub(crate) fn float_var(k: u32) -> u32 {
+    coded(Tag::FLOAT_VAR, k)
+}
+
+// Of never and of unit, and of the primitive, the row and the definition k.
+pub(crate) fn never() -> u32 {
+    coded(Tag::NEVER, 0)
+}
+
+pub(crate) fn unit() -> u32 {
+    coded(Tag::UNIT, 0)
+}
+
 pub(crate) fn primitive(k: u32) -> u32 {
     coded(Tag::PRIMITIVE, k)
+}
+
+pub(crate) fn row(k: u32) -> u32 {
+    coded(Tag::ROW, k)
+}
+
+pub(crate) fn definition(k: u32) -> u32 {
+    coded(Tag::DEFINITION, k)
 }
 
 // One variable more; how many are in use then.
@@ -24,8 +48,8 @@ pub(crate) fn more(cells: &mut [u32; UnionFind::CAPACITY], n: u32, kind: Kind) -
     ensures { Live result cells.new }
 {
     match fresh(cells, n, kind) {
-        Made::Code(_) => n + 1,
-        Made::Refused(_) => n,
+        Ok(_) => n + 1,
+        Err(_) => n,
     }
 }
 
@@ -35,39 +59,21 @@ pub(crate) fn fill(cells: &mut [u32; UnionFind::CAPACITY], count: u32) -> u32
     ensures { Live result cells.new }
 {
     let mut n: u32 = 0;
-    let mut i: u32 = 0;
-    while i < count {
+    for _ in 0..count {
         n = more(cells, n, Kind::Var);
-        i += 1;
     }
     n
 }
 
 // How many cells hold another code than x.
-pub(crate) fn others(cells: &[u32; UnionFind::CAPACITY], x: u32) -> u64 {
-    let mut count = 0u64;
-    let mut i = 0;
-    while i < UnionFind::CAPACITY {
-        if cells[i] != x {
-            count = one_more(count);
-        }
-        i += 1;
-    }
-    count
+pub(crate) fn others(cells: &[u32; UnionFind::CAPACITY], x: u32) -> usize {
+    cells.iter().filter(|code| **code != x).count()
 }
 
 // How many cells differ.
 pub(crate) fn changed(
     before: &[u32; UnionFind::CAPACITY],
     after: &[u32; UnionFind::CAPACITY],
-) -> u64 {
-    let mut count = 0u64;
-    let mut i = 0;
-    while i < UnionFind::CAPACITY {
-        if before[i] != after[i] {
-            count = one_more(count);
-        }
-        i += 1;
-    }
-    count
+) -> usize {
+    before.iter().zip(after).filter(|(a, b)| **a != **b).count()
 }

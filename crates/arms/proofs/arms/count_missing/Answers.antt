@@ -1,20 +1,17 @@
-use mathlib.Core.Path.{ap}
-use mathlib.Core.Bool.{not}
+use Rattle.std.proofs.Common.{ℕ, not, ◌∙◌, refl, ap, rules, tests}
+use Rattle.pack.specs.Lists.{list_len}
+use Rattle.members.specs.Lookup.{name_at}
+use Rattle.members.specs.Places.{any}
+use Rattle.members.proofs.Counting.{count_filtered}
+use Rattle.members.proofs.Counts.{tally_same}
+use Rattle.arms.specs.Free.{arm_has}
 use Rattle.arms.specs.Match.{missing_variants}
-use Rattle.members.proofs.Counting.{count_none, count_more, count_room, count_all}
 use Rattle.arms.proofs.Covering.{covered_told}
-use native.Mathlib.Omega.{arith}
 use Rattle.arms.proofs.arms.count_missing.Goals as goal
-
-pub loop-k-init : goal.loop-k-init
-loop-k-init c = count_none _ _
-
-pub overflow_add-missing : goal.overflow_add-missing
-overflow_add-missing c = omega (arith, count_room c.loop-k.invariant (not c.has_free-met.result) (omega (arith, c.list_len-n.ensures.same)) c.flag-missing.ensures (omega (arith, c.list_len-n.ensures.same, c.list_len-n.ensures.small)))
-
-pub loop-k-preserved : goal.loop-k-preserved
-loop-k-preserved c = count_more c.loop-k.invariant (omega (arith, c.list_len-n.ensures.same)) c.flag-missing.ensures (ap not (covered_told _ _ _ _ c.requires.1 (rw c.name_at.ensures.same at c.has_free-met.ensures)))
 
 pub returns : goal.returns
 unfolding missing_variants
-returns c = count_all c.loop-k.invariant (omega (arith, c.list_len-n.ensures.same))
+returns c =
+    let met = λ (k : ℕ). any (arm_has c.args.pack.now c.args.c c.args.arms (name_at c.args.pack.now c.args.c c.args.list k)) (list_len c.args.pack.now c.args.c c.args.arms) in
+    count_filtered (λ (k : ℕ). not (met k)) c.list_len.ensures.same c.count.ensures.ran c.filter.ensures.source c.filter.ensures.closure (λ x b q k. search (rules, tests))
+    ∙ tally_same (λ (k : ℕ). not (met k)) _ (λ k. ap not (covered_told _ _ _ _ c.requires.1 refl)) _

@@ -4,7 +4,7 @@ use Rattle.cells_abi.proofs.Stepping.{cell_step_lem, unknown_cell}
 use Rattle.cells_abi.proofs.operations.cell.Goals as goal
 
 pub returns-then-v-n : goal.returns-then-v-n
-returns-then-v-n c = cell_step_lem c.requires _ c.if-v-n.true refl
+returns-then-v-n c = rw c.done.ensures (cell_step_lem c.requires _ c.if-v-n.true refl)
 
 pub returns : goal.returns
-returns c = unknown_cell c.requires _ c.if-v-n.false
+returns c = rw c.refused.ensures (unknown_cell c.requires _ c.if-v-n.false)

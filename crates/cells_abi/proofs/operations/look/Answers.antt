@@ -7,7 +7,7 @@ pub find-x-requires : goal.find-x-requires
 find-x-requires c = (omega (arith, c.requires.room, c.if-v-n.true), c.requires.loopfree)
 
 pub returns-then-v-n : goal.returns-then-v-n
-returns-then-v-n c = found_step c.requires _ c.if-v-n.true c.find-x.ensures
+returns-then-v-n c = rw c.done.ensures (found_step c.requires _ c.if-v-n.true c.find-x.ensures)
 
 pub returns : goal.returns
-returns c = unknown_find c.requires _ c.if-v-n.false
+returns c = rw c.refused.ensures (unknown_find c.requires _ c.if-v-n.false)

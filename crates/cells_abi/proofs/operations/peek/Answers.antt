@@ -7,7 +7,7 @@ pub find_ref-x-requires : goal.find_ref-x-requires
 find_ref-x-requires c = (omega (arith, c.requires.room, c.if-v-n.true), c.requires.loopfree)
 
 pub returns-then-v-n : goal.returns-then-v-n
-returns-then-v-n c = ref_step_lem c.requires _ c.if-v-n.true c.find_ref-x.ensures
+returns-then-v-n c = rw c.done.ensures (ref_step_lem c.requires _ c.if-v-n.true c.find_ref-x.ensures)
 
 pub returns : goal.returns
-returns c = unknown_ref c.requires _ c.if-v-n.false
+returns c = rw c.refused.ensures (unknown_ref c.requires _ c.if-v-n.false)

@@ -1,13 +1,10 @@
--- The code's tests are the definition's, and each side is what its call ensured.
-use Rattle.laws.proofs.Choice.{yes, no}
-use Rattle.pack.specs.Answer.{needs as answers}
-use borrow.Author.Tests.{lt-ltb, le-ltb}
+use mathlib.Core.Path.{◌∙◌}
+use Rattle.laws.proofs.Answers.{passed_on}
+use Rattle.pack.proofs.NeedLaws.{met, unmet}
 use Rattle.entries.proofs.ready.with_root.Goals as goal
 
-pub returns-then-root-c : goal.returns-then-root-c
-unfolding answers
-returns-then-root-c c = yes _ _ _ (lt-ltb _ _ c.if-root-c.true) c.with_room.ensures
+pub returns : goal.returns
+returns c = rw (← c.from.ensures) (met _ _ _ c.in_ok-need.ensures c.with_room.ensures)
 
-pub returns-else-root-c : goal.returns-else-root-c
-unfolding answers
-returns-else-root-c c = no _ _ _ (le-ltb _ _ c.if-root-c.false) c.refused.ensures
+pub returns-in_err-need : goal.returns-in_err-need
+returns-in_err-need c = rw (← c.from.ensures) (passed_on _ c.in_err-need.field-0.0 c.from_residual.ensures.1 ∙ unmet _ _ _ c.in_err-need.ensures)

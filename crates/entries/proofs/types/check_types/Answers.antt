@@ -1,23 +1,18 @@
 -- Module 3 is asked of a well-formed pack alone.
 use mathlib.Core.Path.{sym, ap, ◌∙◌}
-use Rattle.laws.proofs.Answers.{follows, stands}
-use Rattle.pack.specs.Answer.{passes}
+use Rattle.laws.proofs.Answers.{passed_on, went_on, gave_up}
 use Rattle.type_cycle.specs.Cycles.{type_cycles_of}
 use Rattle.entries.specs.Types.{types_answer}
 use Rattle.entries.proofs.ReadyLaws.{types_ready, counts_are}
 use Rattle.entries.proofs.types.check_types.Goals as goal
 
 pub detect_type_cycles-requires : goal.detect_type_cycles-requires
-detect_type_cycles-requires c = types_ready _ _ (sym c.formed-reading.ensures ∙ c.in-Pack.is)
+detect_type_cycles-requires c = types_ready _ _ (sym c.in_ok-c.ensures)
 
-pub returns-in-Pack : goal.returns-in-Pack
+pub returns : goal.returns
 unfolding types_answer
-returns-in-Pack c =
-    let well = sym c.formed-reading.ensures ∙ c.in-Pack.is in
-    follows passes _ _ (ap passes well) (c.detect_type_cycles.ensures ∙ ap (type_cycles_of _) (counts_are _ _ well))
+returns c = went_on _ _ c.in_ok-c.ensures (c.detect_type_cycles.ensures ∙ ap (type_cycles_of _) (counts_are _ _ (sym c.in_ok-c.ensures)))
 
-pub returns-in-Refused : goal.returns-in-Refused
+pub returns-in_err-c : goal.returns-in_err-c
 unfolding types_answer
-returns-in-Refused c =
-    let no-pack = sym c.formed-reading.ensures ∙ c.in-Refused.is in
-    stands passes _ _ (ap passes no-pack) (sym no-pack)
+returns-in_err-c c = gave_up _ _ (passed_on _ c.in_err-c.field-0.0 c.from_residual.ensures.1) c.in_err-c.ensures

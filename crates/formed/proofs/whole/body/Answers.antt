@@ -1,17 +1,19 @@
-use Rattle.laws.proofs.Answers.{follows, stands}
-use Rattle.pack.specs.Answer.{passes}
+use Rattle.laws.proofs.Answers.{passed_on, went_on, gave_up}
+use Rattle.laws.specs.Faults.{passes}
 use Rattle.formed.specs.Formed.{body_of}
-use mathlib.Core.Path.{ap, sym, ◌∙◌}
+use mathlib.Core.Path.{ap, sym}
 use Rattle.formed.proofs.whole.body.Goals as goal
 
-pub rows-answer-requires : goal.rows-answer-requires
-rows-answer-requires c = c.requires
+pub rows-requires : goal.rows-requires
+rows-requires c = c.requires
 
 pub trees-requires : goal.trees-requires
-trees-requires c = (c.requires, ap passes (sym c.rows-answer.ensures ∙ c.in-Pack.is))
+trees-requires c = (c.requires, sym (ap passes c.in_ok-rows.ensures))
 
-pub returns-in-Pack : goal.returns-in-Pack
-returns-in-Pack c = unfold body_of in follows passes _ _ (ap passes (sym c.rows-answer.ensures ∙ c.in-Pack.is)) c.trees.ensures
+pub returns-in_err-rows : goal.returns-in_err-rows
+unfolding body_of
+returns-in_err-rows c = gave_up _ _ (passed_on _ c.in_err-rows.field-0.0 c.from_residual.ensures.1) c.in_err-rows.ensures
 
-pub returns-in-Refused : goal.returns-in-Refused
-returns-in-Refused c = unfold body_of in stands passes _ _ (ap passes (sym c.rows-answer.ensures ∙ c.in-Refused.is)) (sym c.in-Refused.is ∙ c.rows-answer.ensures)
+pub returns : goal.returns
+unfolding body_of
+returns c = went_on _ _ c.in_ok-rows.ensures c.trees.ensures

@@ -9,4 +9,4 @@ pub returns-then-list_fits : goal.returns-then-list_fits
 returns-then-list_fits c = inside _ _ _ _ c.list_len-n.ensures.same c.words_of.ensures c.list_fits.ensures c.if-list_fits.true c.each_fits.ensures
 
 pub returns-else-list_fits : goal.returns-else-list_fits
-returns-else-list_fits c = outside _ _ _ _ c.list_len-n.ensures.same c.words_of.ensures c.list_fits.ensures c.if-list_fits.false
+returns-else-list_fits c = c.if-list_fits.false ∙ outside _ _ _ _ c.list_len-n.ensures.same c.words_of.ensures c.list_fits.ensures c.if-list_fits.false

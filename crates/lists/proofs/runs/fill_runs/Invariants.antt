@@ -3,6 +3,3 @@ use Rattle.lists.proofs.runs.fill_runs.Given as goal
 
 abbrev pub invariant-loop-k : goal.invariant-loop-k
 invariant-loop-k l = Filled l.pack l.c l.limit l.k l.end l.ends
-
-abbrev pub decreases-loop-k : goal.decreases-loop-k
-decreases-loop-k l = l.k

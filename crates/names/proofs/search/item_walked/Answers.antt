@@ -10,9 +10,6 @@ pub loop-k-init : goal.loop-k-init
 unfolding next_item
 loop-k-init c = record { says = refl }
 
-pub overflow_mul-k : goal.overflow_mul-k
-overflow_mul-k c = omega (arith, c.requires.1)
-
 pub returns-then-list_item-name : goal.returns-then-list_item-name
 returns-then-list_item-name c = stops c.loop-k.invariant (omega arith) (ap not (eq c.list_item.ensures.same refl c.if-list_item-name.true))
 

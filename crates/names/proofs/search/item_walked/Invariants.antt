@@ -1,5 +1,5 @@
 use mathlib.Core.Bool.{not}
-use Prim.Native.Nat.{◌*◌, ◌-◌}
+use Prim.Native.Nat.{◌*◌}
 use lib.Dec.{eqb}
 use Rattle.laws.proofs.First.{Left}
 use Rattle.pack.specs.Lists.{list_item}
@@ -8,6 +8,3 @@ use Rattle.names.proofs.search.item_walked.Given as goal
 
 abbrev pub invariant-loop-k : goal.invariant-loop-k
 invariant-loop-k l = Left (λ m. not (eqb (list_item l.pack l.c l.s (2 * m)) l.name)) (λ m. m) l.n l.k l.n (next_item l.pack l.c l.s l.i l.n l.name)
-
-abbrev pub decreases-loop-k : goal.decreases-loop-k
-decreases-loop-k l = l.n - l.k

@@ -3,21 +3,8 @@ use Rattle.names.proofs.Seeking.{rising, word_found, word_none}
 use native.Mathlib.Omega.{arith}
 use Rattle.names.proofs.search.seat_from.Goals as goal
 
--- `seat_from`: the first place of the key that is not below x.
-pub entry_at-low-requires : goal.entry_at-low-requires
-entry_at-low-requires c = omega (arith, c.requires.1)
-
-pub overflow_add-key : goal.overflow_add-key
-overflow_add-key c = omega (arith, c.requires.1)
-
-pub entry_at-high-requires : goal.entry_at-high-requires
-entry_at-high-requires c = omega (arith, c.requires.1)
-
 pub seek-m-requires : goal.seek-m-requires
 seek-m-requires c = rising c.requires.0.sorted c.requires.1 c.entry_at-low.ensures.same c.entry_at-high.ensures.same
-
-pub overflow_add-m : goal.overflow_add-m
-overflow_add-m c = omega (arith, (rising c.requires.0.sorted c.requires.1 c.entry_at-low.ensures.same c.entry_at-high.ensures.same).room)
 
 pub entry_at-requires : goal.entry_at-requires
 entry_at-requires c = omega (arith, (rising c.requires.0.sorted c.requires.1 c.entry_at-low.ensures.same c.entry_at-high.ensures.same).room)

@@ -1,25 +1,27 @@
 use mathlib.Core.Path.{sym, ap, ◌∙◌}
 use native.Mathlib.Omega.{arith}
-use Rattle.report.specs.Kids.{kid_in}
+use Rattle.std.proofs.Common.{option_to_list}
 use Rattle.report.proofs.Writing.{tree_starts, tree_absent, tree_kid, tree_ends, tree_long, tree_written, tree_none, written_length, wrote_long}
 use Rattle.report.proofs.tree.+tree.Goals as goal
+use Rattle.report.proofs.tree.+tree.Goals.{write_kids-in-Some, write_kids-in_default}
 
 -- ---- write_kids
 
 pub write_kids-loop-k-init : goal.write_kids-loop-k-init
-write_kids-loop-k-init t c = tree_starts _ _ _ _ c.kids_room-room.ensures.same c.requires _
+write_kids-loop-k-init t c = tree_starts _ _ _ _ c.kids_room-k-end.ensures.same c.requires _
 
 pub write_kids-kid_at-requires : goal.write_kids-kid_at-requires
-write_kids-kid_at-requires t c = omega (arith, c.loop-k-test.true, c.kids_room-room.ensures.small)
-
-pub write_kids-loop-k-preserved-in-Absent : goal.write_kids-loop-k-preserved-in-Absent
-write_kids-loop-k-preserved-in-Absent t c = tree_absent c.loop-k.invariant c.loop-k-test.true (sym c.kid_at.ensures ∙ ap kid_in c.in-Absent.is)
+write_kids-kid_at-requires t c = omega (arith, c.loop-k-test.true, c.kids_room-k-end.ensures.small)
 
 pub write_kids-write_tree-requires : goal.write_kids-write_tree-requires
 write_kids-write_tree-requires t c = (omega (arith, c.decreases), c.loop-k.invariant.held)
 
 pub write_kids-loop-k-preserved : goal.write_kids-loop-k-preserved
-write_kids-loop-k-preserved t c = tree_kid c.loop-k.invariant c.loop-k-test.true _ (sym c.kid_at.ensures ∙ ap kid_in c.in-Is.is) c.write_tree.ensures
+write_kids-loop-k-preserved t c =
+    elim c.match-kid_at.branch [
+      | write_kids-in-Some w ↦ rw (w.cells-is, w.notes-is, w.area-is) (tree_kid c.loop-k.invariant c.loop-k-test.true _ (sym c.kid_at.ensures ∙ ap option_to_list w.in-Some.is) w.write_tree.ensures)
+      | write_kids-in_default w ↦ rw (w.cells-is, w.notes-is, w.area-is) (tree_absent c.loop-k.invariant c.loop-k-test.true (sym c.kid_at.ensures ∙ ap option_to_list w.in_default.is))
+    ]
 
 pub write_kids-shape_of-area : goal.write_kids-shape_of-area
 write_kids-shape_of-area t c = tree_long c.loop-k.invariant ∙ written_length _ _

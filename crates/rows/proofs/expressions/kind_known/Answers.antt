@@ -1,34 +1,9 @@
 use Rattle.laws.specs.Choice.{by_kind}
-use Rattle.laws.proofs.Choice.{past_kinds}
+use Rattle.pack.specs.Kinds.{node_number}
 use Rattle.rows.specs.Expressions.{kind_known}
+use mathlib.Core.Path.{ap, ◌∙◌}
 use Rattle.rows.proofs.expressions.kind_known.Goals as goal
 
-pub returns-in-0 : goal.returns-in-0
-returns-in-0 c = unfold kind_known by_kind in rw (c.in-0.is, ← c.unused.ensures) c.both.ensures
-
-pub returns-in-1 : goal.returns-in-1
-returns-in-1 c = unfold kind_known by_kind in rw c.in-1.is c.unused-in-1.ensures
-
-pub returns-in-2 : goal.returns-in-2
-returns-in-2 c = unfold kind_known by_kind in rw c.in-2.is c.unused-in-2.ensures
-
-pub returns-in-3 : goal.returns-in-3
-returns-in-3 c = unfold kind_known by_kind in rw c.in-3.is c.unused-in-3.ensures
-
-pub returns-in-4 : goal.returns-in-4
-returns-in-4 c = unfold kind_known by_kind in rw c.in-4.is c.unused-in-4.ensures
-
-pub returns-in-5 : goal.returns-in-5
-returns-in-5 c = unfold kind_known by_kind in rw (c.in-5.is, ← c.unused-in-5.ensures) c.both-in-5.ensures
-
-pub returns-in-6 : goal.returns-in-6
-returns-in-6 c = unfold kind_known by_kind in rw c.in-6.is c.unused-in-6.ensures
-
-pub returns-in-7 : goal.returns-in-7
-returns-in-7 c = unfold kind_known by_kind in rw c.in-7.is c.unused-in-7.ensures
-
-pub returns-in-8 : goal.returns-in-8
-returns-in-8 c = unfold kind_known by_kind in rw c.in-8.is c.unused-in-8.ensures
-
-pub returns-in_default : goal.returns-in_default
-returns-in_default c = unfold kind_known in past_kinds _ _ _ _ c.in_default.in_default-own.rest
+pub returns-in-Ok-Block : goal.returns-in-Ok-Block
+unfolding kind_known by_kind
+returns-in-Ok-Block c = rw (c.in-Ok-Block.ensures ∙ ap node_number c.in-Ok-Block.field-0-is) c.unused-in-Ok-Block.ensures

@@ -1,21 +1,26 @@
+use Rattle.laws.proofs.Answers.{passed_on}
 use Rattle.laws.proofs.First.{goes, stops, ends}
-use Rattle.pack.specs.Answer.{passes}
+use Rattle.laws.specs.Faults.{passes}
 use Rattle.rows.specs.Tables.{rows_of}
 use mathlib.Core.Path.{refl, ap, sym, ◌∙◌}
 use native.Mathlib.Omega.{arith}
 use Rattle.rows.proofs.tables.all_tables.Goals as goal
 
 pub loop-table-init : goal.loop-table-init
-loop-table-init c = unfold rows_of in (omega arith, record { says = refl })
+unfolding rows_of
+loop-table-init c = record { says = refl }
 
-pub table_rows-answer-requires : goal.table_rows-answer-requires
-table_rows-answer-requires c = c.requires
+pub table_rows-requires : goal.table_rows-requires
+table_rows-requires c = c.requires
 
 pub loop-table-preserved : goal.loop-table-preserved
-loop-table-preserved c = (omega arith, goes c.loop-table.invariant.1 (omega arith) (ap passes (sym c.table_rows-answer.ensures ∙ c.in-Pack.is)))
+loop-table-preserved c = goes c.loop-table.invariant (omega arith) (sym (ap passes c.in_ok-table_rows.ensures))
 
-pub returns-in-Refused : goal.returns-in-Refused
-returns-in-Refused c = sym c.in-Refused.is ∙ c.table_rows-answer.ensures ∙ stops c.loop-table.invariant.1 (omega arith) (ap passes (sym c.table_rows-answer.ensures ∙ c.in-Refused.is))
+pub returns-in_err-table_rows : goal.returns-in_err-table_rows
+returns-in_err-table_rows c =
+    passed_on _ c.in_err-table_rows.field-0.0 c.from_residual.ensures.1
+    ∙ c.in_err-table_rows.ensures
+    ∙ stops c.loop-table.invariant (omega arith) (sym (ap passes c.in_err-table_rows.ensures))
 
 pub returns : goal.returns
-returns c = ends c.loop-table.invariant.1 (omega arith)
+returns c = ends c.loop-table.invariant (omega arith)

@@ -4,10 +4,10 @@ use Rattle.slots.proofs.close.close_lets.Goals as goal
 
 pub loop-k-init : goal.loop-k-init
 unfolding close_lets
-loop-k-init c = shut_starts _ _ c.list_len-n.ensures.same
+loop-k-init c = shut_starts _ _ c.list_len-k-end.ensures.same
 
 pub loop-k-preserved : goal.loop-k-preserved
-loop-k-preserved c = shut_goes c.loop-k.invariant c.loop-k-test.true (rw c.list_item-e.ensures.same at c.close_let.ensures)
+loop-k-preserved c = shut_goes c.loop-k.invariant c.loop-k-test.true (rw c.list_item.ensures.same at c.close_let.ensures)
 
 pub returns : goal.returns
 returns c = shut_ends c.loop-k.invariant c.loop-k-test.false

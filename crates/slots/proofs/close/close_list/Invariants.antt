@@ -1,5 +1,4 @@
 -- `close_list`: the slots from the k-th on are left.
-use Prim.Native.Nat.{◌-◌}
 use mathlib.Core.List.{[], ◌∷◌}
 use Rattle.pack.specs.Lists.{list_item}
 use Rattle.slots.specs.Slots.{close_list}
@@ -7,7 +6,4 @@ use Rattle.slots.proofs.Steps.{ShutLeft}
 use Rattle.slots.proofs.close.close_list.Given as goal
 
 abbrev pub invariant-loop-k : goal.invariant-loop-k
-invariant-loop-k l = ShutLeft (λ j. list_item l.pack l.c l.list j ∷ []) l.k l.n l.slots (close_list l.pack l.c l.list l.initial.slots)
-
-abbrev pub decreases-loop-k : goal.decreases-loop-k
-decreases-loop-k l = l.n - l.k
+invariant-loop-k l = ShutLeft (λ j. list_item l.pack l.c l.list j ∷ []) l.k l.k-end l.slots (close_list l.pack l.c l.list l.initial.slots)

@@ -11,11 +11,5 @@ returns-else-sort-eq1 c = apart_types c.if-sort-eq1.false c.types_apart.ensures
 pub pairs_apart-requires : goal.pairs_apart-requires
 pairs_apart-requires c = (omega (arith, c.requires.1, span_pairs _ c.if-sort-eq1.true), omega (arith, c.requires.2, span_pairs _ c.if-sort-eq1.true))
 
-pub overflow_cast-result : goal.overflow_cast-result
-overflow_cast-result c = omega (arith, c.pairs_apart.ensures.small)
-
 pub types_apart-requires : goal.types_apart-requires
 types_apart-requires c = (omega (arith, c.requires.1, span_types _ c.if-sort-eq1.false), omega (arith, c.requires.2, span_types _ c.if-sort-eq1.false))
-
-pub overflow_cast-result-else-sort-eq1 : goal.overflow_cast-result-else-sort-eq1
-overflow_cast-result-else-sort-eq1 c = omega (arith, c.types_apart.ensures.small)

@@ -1,19 +1,19 @@
-use mathlib.Core.Path.{refl}
+use mathlib.Core.Path.{sym, ◌∙◌}
 use native.Mathlib.Omega.{arith}
 use Rattle.laws.proofs.Bounded.{get_in}
-use Rattle.laws.proofs.First.{goes, stops, ends}
-use Rattle.laws.proofs.Told.{eq, ne}
+use Rattle.laws.proofs.Choice.{by_eq}
 use Rattle.structure.specs.Words.{looks}
+use Rattle.structure.proofs.Spots.{steps}
 use Rattle.structure.proofs.compare.words_apart.Goals as goal
 
-pub loop-m-init : goal.loop-m-init
-loop-m-init c = record { says = refl }
-
 pub loop-m-preserved : goal.loop-m-preserved
-loop-m-preserved c = goes c.loop-m.invariant (omega arith) (eq (get_in looks _ _ (omega arith)) (get_in looks _ _ (omega arith)) c.if-look-a.true)
+loop-m-preserved g c k l =
+    let h = steps g.row.STEP _ _ c.loop-m-test.true in
+    by_eq k c.loop-m.m
+    (λ e. rw e (sym (get_in looks _ _ (omega (arith, h, c.requires.0))) ∙ c.if-look-a.false ∙ get_in looks _ _ (omega (arith, h, c.requires.1))))
+    (λ e. c.loop-m.invariant k (omega (arith, l, e)))
 
-pub returns-else-look-a : goal.returns-else-look-a
-returns-else-look-a c = stops c.loop-m.invariant (omega arith) (ne (get_in looks _ _ (omega arith)) (get_in looks _ _ (omega arith)) c.if-look-a.false)
-
-pub returns : goal.returns
-returns c = ends c.loop-m.invariant (omega arith)
+pub returns-then-look-a : goal.returns-then-look-a
+returns-then-look-a g c =
+    let h = steps g.row.STEP _ _ c.loop-m-test.true in
+    (c.loop-m-test.true, λ q. c.if-look-a.true (get_in looks _ _ (omega (arith, h, c.requires.0)) ∙ q ∙ sym (get_in looks _ _ (omega (arith, h, c.requires.1)))), c.loop-m.invariant)

@@ -1,5 +1,5 @@
 -- Of the words below m, as many name a marked type as were counted.
-use Prim.Native.Nat.{◌+◌, ◌-◌, ◌%◌}
+use Prim.Native.Nat.{◌+◌, ◌*◌, ◌%◌}
 use lib.Dec.{eqb}
 use Rattle.laws.specs.First.{all}
 use Rattle.laws.specs.Bounded.{get}
@@ -8,7 +8,4 @@ use Rattle.structure.proofs.Counting.{Counted}
 use Rattle.structure.proofs.lists.any_held.Given as goal
 
 abbrev pub invariant-loop-m : goal.invariant-loop-m
-invariant-loop-m l = Counted (λ k. eqb (get looks l.look (l.a + k) % 2) 0) l.m l.n (all (λ k. eqb (get looks l.look (l.a + k) % 2) 0) 0 l.n) l.odd
-
-abbrev pub decreases-loop-m : goal.decreases-loop-m
-decreases-loop-m l = l.n - l.m
+invariant-loop-m g l = Counted (λ k. eqb (get looks l.look (l.a + g.row.STEP * k) % 2) 0) l.m l.n (all (λ k. eqb (get looks l.look (l.a + g.row.STEP * k) % 2) 0) 0 l.n) l.odd

@@ -1,5 +1,4 @@
 -- `list_held`: no type of an item below m is marked.
-use Prim.Native.Nat.{◌-◌}
 use lib.Dec.{eqb}
 use Rattle.laws.specs.First.{all}
 use Rattle.laws.proofs.First.{AllLeft}
@@ -9,6 +8,3 @@ use Rattle.structure.proofs.lists.list_held.Given as goal
 
 abbrev pub invariant-loop-m : goal.invariant-loop-m
 invariant-loop-m l = AllLeft (λ k. eqb (entry l.marks (part_at l.pack l.c l.s k)) 0) l.m (len_at l.pack l.c l.s) (all (λ k. eqb (entry l.marks (part_at l.pack l.c l.s k)) 0) 0 (len_at l.pack l.c l.s))
-
-abbrev pub decreases-loop-m : goal.decreases-loop-m
-decreases-loop-m l = l.n - l.m

@@ -1,5 +1,4 @@
 -- `all_fit`: the lists of the rows below k fit.
-use Prim.Native.Nat.{◌-◌}
 use Rattle.laws.specs.First.{all}
 use Rattle.laws.proofs.First.{AllLeft}
 use Rattle.pack.specs.Rows.{type_row}
@@ -8,6 +7,3 @@ use Rattle.structure.proofs.numbering.all_fit.Given as goal
 
 abbrev pub invariant-loop-k : goal.invariant-loop-k
 invariant-loop-k l = AllLeft (λ i. fits l.pack l.c (slot_of (type_row l.pack i))) l.k l.n (all (λ i. fits l.pack l.c (slot_of (type_row l.pack i))) 0 l.n)
-
-abbrev pub decreases-loop-k : goal.decreases-loop-k
-decreases-loop-k l = l.n - l.k

@@ -1,18 +1,18 @@
-use Rattle.laws.proofs.Answers.{follows, stands}
-use Rattle.pack.specs.Answer.{passes}
+use Rattle.laws.proofs.Answers.{passed_on, went_on, gave_up}
 use Rattle.type_cycle.specs.Cycles.{type_cycles_of}
 use Rattle.type_cycle.proofs.Ready.{good}
-use mathlib.Core.Path.{ap, sym, ◌∙◌}
 use Rattle.type_cycle.proofs.cycles.detect_type_cycles.Goals as goal
 
-pub unresolved-first-requires : goal.unresolved-first-requires
-unresolved-first-requires c = good _ _ c.requires.0 c.requires.1
+pub unresolved-requires : goal.unresolved-requires
+unresolved-requires c = good _ _ c.requires.0 c.requires.1
 
 pub cycle-requires : goal.cycle-requires
 cycle-requires c = good _ _ c.requires.0 c.requires.1
 
-pub returns-in-Pack : goal.returns-in-Pack
-returns-in-Pack c = unfold type_cycles_of in follows passes _ _ (ap passes (sym c.unresolved-first.ensures ∙ c.in-Pack.is)) c.cycle.ensures
+pub returns-in_err-unresolved : goal.returns-in_err-unresolved
+unfolding type_cycles_of
+returns-in_err-unresolved c = gave_up _ _ (passed_on _ c.in_err-unresolved.field-0.0 c.from_residual.ensures.1) c.in_err-unresolved.ensures
 
-pub returns-in-Refused : goal.returns-in-Refused
-returns-in-Refused c = unfold type_cycles_of in stands passes _ _ (ap passes (sym c.unresolved-first.ensures ∙ c.in-Refused.is)) (sym c.in-Refused.is ∙ c.unresolved-first.ensures)
+pub returns : goal.returns
+unfolding type_cycles_of
+returns c = went_on _ _ c.in_ok-unresolved.ensures c.cycle.ensures

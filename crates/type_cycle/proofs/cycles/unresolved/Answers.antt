@@ -1,24 +1,19 @@
+use Rattle.std.proofs.Common.{Err}
 use Rattle.laws.proofs.First.{goes, stops, ends}
 use Rattle.type_cycle.specs.Cycles.{unresolved_of}
 use Rattle.type_cycle.proofs.UnresolvedLaws.{starts, clear, met}
-use mathlib.Core.Path.{refl, ◌∙◌}
-use native.Mathlib.Omega.{arith}
+use mathlib.Core.Path.{refl, ap, ◌∙◌}
+use Rattle.type_cycle.specs.declared.skips.Skips.{Skips}
 use Rattle.type_cycle.proofs.cycles.unresolved.Goals as goal
 
-pub wall-requires : goal.wall-requires
-wall-requires c = c.empty-marks.ensures
-
 pub loop-d-init : goal.loop-d-init
-loop-d-init c = unfold unresolved_of in (starts c.requires c.wall.ensures c.empty-skips.ensures, record { says = refl })
-
-pub search_fields-requires : goal.search_fields-requires
-search_fields-requires c = (omega arith, c.loop-d.invariant.0.can)
+loop-d-init c = unfold unresolved_of in (starts c.requires c.wall.ensures.walled (ap (λ (s : Skips). s.cells) c.wall.ensures.skips ∙ c.empty-search.ensures.skips_are), record { says = refl })
 
 pub loop-d-preserved : goal.loop-d-preserved
-loop-d-preserved c = let r = clear c.requires c.loop-d.invariant.0 _ (omega arith) c.search_fields.ensures c.if-marks-eq0.true in (r.1, goes c.loop-d.invariant.1 (omega arith) r.0)
+loop-d-preserved c = let r = clear c.requires c.loop-d.invariant.0 _ c.loop-d-test.true c.visit_fields.ensures c.if-search-offset2560.false in (r.1, goes c.loop-d.invariant.1 c.loop-d-test.true r.0)
 
-pub returns-else-marks-eq0 : goal.returns-else-marks-eq0
-returns-else-marks-eq0 c = c.refused.ensures ∙ stops c.loop-d.invariant.1 (omega arith) (met c.requires c.loop-d.invariant.0 _ (omega arith) c.search_fields.ensures c.if-marks-eq0.false)
+pub returns-then-search-offset2560 : goal.returns-then-search-offset2560
+returns-then-search-offset2560 c = ap Err c.at.ensures ∙ stops c.loop-d.invariant.1 c.loop-d-test.true (met c.requires c.loop-d.invariant.0 _ c.loop-d-test.true c.visit_fields.ensures c.if-search-offset2560.true)
 
 pub returns : goal.returns
-returns c = ends c.loop-d.invariant.1 (omega arith)
+returns c = ends c.loop-d.invariant.1 c.loop-d-test.false

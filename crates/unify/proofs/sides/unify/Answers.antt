@@ -8,7 +8,7 @@ pub returns-in-Same : goal.returns-in-Same
 returns-in-Same c = unifies c.requires.0 c.requires.1.0 c.requires.1.1 c.resolve_type-a.ensures c.resolve_type-b.ensures _ _ {p = Same} (sym c.in-Same.is ∙ c.plan_for.ensures)
 
 pub returns-in-Clash : goal.returns-in-Clash
-returns-in-Clash c = rw c.mismatched.ensures (unifies c.requires.0 c.requires.1.0 c.requires.1.1 c.resolve_type-a.ensures c.resolve_type-b.ensures _ _ {p = Clash} (sym c.in-Clash.is ∙ c.plan_for.ensures))
+returns-in-Clash c = rw c.at.ensures (unifies c.requires.0 c.requires.1.0 c.requires.1.1 c.resolve_type-a.ensures c.resolve_type-b.ensures _ _ {p = Clash} (sym c.in-Clash.is ∙ c.plan_for.ensures))
 
 pub returns-in-Store : goal.returns-in-Store
 returns-in-Store c = rw (c.set.ensures.answer, c.set.ensures.cells) (unifies c.requires.0 c.requires.1.0 c.requires.1.1 c.resolve_type-a.ensures c.resolve_type-b.ensures _ _ {p = Store c.in-Store.cell c.in-Store.code} (sym c.in-Store.is ∙ c.plan_for.ensures))

@@ -6,4 +6,4 @@ pub returns-then-n-lt-CAPACITY : goal.returns-then-n-lt-CAPACITY
 returns-then-n-lt-CAPACITY c = rw c.own_code-x.ensures (makes c.requires _ c.if-n-lt-CAPACITY.true)
 
 pub returns : goal.returns
-returns c = rw c.full_up.ensures (makes_none c.requires _ c.if-n-lt-CAPACITY.false)
+returns c = rw c.at.ensures (makes_none c.requires _ c.if-n-lt-CAPACITY.false)

@@ -1,4 +1,5 @@
-use mathlib.Core.Path.{refl, sym, ◌∙◌}
+use Rattle.std.proofs.Common.{Err}
+use mathlib.Core.Path.{refl, sym, ap, ◌∙◌}
 use Rattle.laws.specs.Choice.{pick}
 use Rattle.laws.proofs.Told.{le, nle}
 use Rattle.unionfind.specs.Answers.{set_answer}
@@ -10,11 +11,11 @@ use Rattle.unionfind.proofs.store.set.Goals.{then-is_var+else-n-w+then-is_link+e
 -- `set`: each way to an answer has the tests that give it, and `sets` turns the answer into the rest of the contract.
 pub returns-then-n-v : goal.returns-then-n-v
 unfolding set_answer pick
-returns-then-n-v c = refuses c.requires.1 _ _ _ c.requires.0 c.unknown_var.ensures (rw (le refl refl c.if-n-v.true))
+returns-then-n-v c = refuses c.requires.1 _ _ _ c.requires.0 (ap Err c.at.ensures) (rw (le refl refl c.if-n-v.true))
 
 pub returns-then-n-w : goal.returns-then-n-w
 unfolding set_answer pick
-returns-then-n-w c = refuses c.requires.1 _ _ _ c.requires.0 c.unknown_var-then-n-w.ensures
+returns-then-n-w c = refuses c.requires.1 _ _ _ c.requires.0 (ap Err c.at-then-n-w.ensures)
     (rw (
       nle refl refl c.if-n-v.false,
       sym c.is_var.ensures ∙ c.if-is_var.true,
@@ -24,7 +25,7 @@ returns-then-n-w c = refuses c.requires.1 _ _ _ c.requires.0 c.unknown_var-then-
 
 pub returns-then-passes : goal.returns-then-passes
 unfolding set_answer pick
-returns-then-passes c = refuses c.requires.1 _ _ _ c.requires.0 c.closes_loop.ensures
+returns-then-passes c = refuses c.requires.1 _ _ _ c.requires.0 (ap Err c.at-then-passes.ensures)
     (rw (
       nle refl refl c.if-n-v.false,
       sym c.is_var.ensures ∙ c.if-is_var.true,

@@ -1,13 +1,8 @@
 use native.Mathlib.Omega.{arith}
-use Rattle.value_cycle.proofs.Contexts.{search_start, search_value, search_found, search_turn, search_end, marking, seen, is_context, entered, less, marked_sized}
+use Rattle.value_cycle.proofs.Contexts.{search_value, search_found, search_end, marking, is_context, entered, less, marked_sized}
 use mathlib.Core.Path.{sym, ◌∙◌}
 use Rattle.tarjan.proofs.Leaves.{refs_values}
 use Rattle.value_cycle.proofs.context.+context.Goals as goal
-
--- ---- any_uses_context
-
-pub any_uses_context-loop-k-init : goal.any_uses_context-loop-k-init
-any_uses_context-loop-k-init t c = search_start c.requires.1 c.list_len-n.ensures.same
 
 pub any_uses_context-determine_uses_context-requires : goal.any_uses_context-determine_uses_context-requires
 any_uses_context-determine_uses_context-requires t c = (omega (arith, c.decreases, c.loop-k.invariant.fewer), (c.requires.0, c.loop-k.invariant.sized, search_value c.loop-k.invariant c.loop-k-test.true c.list_item-w.ensures.same c.requires.2))
@@ -15,40 +10,26 @@ any_uses_context-determine_uses_context-requires t c = (omega (arith, c.decrease
 pub any_uses_context-returns-then-determine_uses_context : goal.any_uses_context-returns-then-determine_uses_context
 any_uses_context-returns-then-determine_uses_context t c = search_found c.loop-k.invariant c.loop-k-test.true c.list_item-w.ensures.same c.determine_uses_context.ensures c.if-determine_uses_context.true
 
-pub any_uses_context-loop-k-preserved : goal.any_uses_context-loop-k-preserved
-any_uses_context-loop-k-preserved t c = search_turn c.loop-k.invariant c.loop-k-test.true c.list_item-w.ensures.same c.determine_uses_context.ensures c.if-determine_uses_context.false
-
 pub any_uses_context-returns : goal.any_uses_context-returns
 any_uses_context-returns t c = search_end c.loop-k.invariant c.loop-k-test.false
 
--- ---- determine_uses_context
-
-pub determine_uses_context-bounds-visited-v : goal.determine_uses_context-bounds-visited-v
-determine_uses_context-bounds-visited-v t c = omega (arith, c.requires.2, c.requires.0.few)
-
-pub determine_uses_context-returns-then-seen-ne0 : goal.determine_uses_context-returns-then-seen-ne0
-determine_uses_context-returns-then-seen-ne0 t c = seen c.requires.1 c.if-seen-ne0.true
-
-pub determine_uses_context-returns-then-kind-eq-CONTEXT : goal.determine_uses_context-returns-then-kind-eq-CONTEXT
-determine_uses_context-returns-then-kind-eq-CONTEXT t c = is_context c.requires.1 (sym c.kind_of-kind.ensures ∙ c.if-kind-eq-CONTEXT.true)
-
-pub determine_uses_context-bounds-visited-v-2 : goal.determine_uses_context-bounds-visited-v-2
-determine_uses_context-bounds-visited-v-2 t c = omega (arith, c.requires.2, c.requires.0.few)
+pub determine_uses_context-returns-then-kind_of-eq-CONTEXT : goal.determine_uses_context-returns-then-kind_of-eq-CONTEXT
+determine_uses_context-returns-then-kind_of-eq-CONTEXT t c = is_context c.requires.1 (sym c.kind_of.ensures ∙ c.if-kind_of-eq-CONTEXT.true)
 
 pub determine_uses_context-any_uses_context-requires : goal.determine_uses_context-any_uses_context-requires
 determine_uses_context-any_uses_context-requires t c =
     let t = c.requires.0 in
-    let u = c.if-seen-ne0.false in
-    let d = c.if-kind-eq-CONTEXT.false in
-    let e = c.list_of-s.ensures in
-    let m = marking c.args.visited.now t c.requires.1 c.requires.2 u c.kind_of-kind.ensures d e in
+    let u = c.if-visited-v.false in
+    let d = c.if-kind_of-eq-CONTEXT.false in
+    let e = c.list_of.ensures in
+    let m = marking c.args.visited.now t c.requires.1 c.requires.2 u c.kind_of.ensures d e in
     (omega (arith, c.decreases, less m), (t, marked_sized m, refs_values t c.requires.2 e))
 
 pub determine_uses_context-returns : goal.determine_uses_context-returns
 determine_uses_context-returns t c =
-    let u = c.if-seen-ne0.false in
-    let d = c.if-kind-eq-CONTEXT.false in
-    let e = c.list_of-s.ensures in
+    let u = c.if-visited-v.false in
+    let d = c.if-kind_of-eq-CONTEXT.false in
+    let e = c.list_of.ensures in
     entered
-    (marking c.args.visited.now c.requires.0 c.requires.1 c.requires.2 u c.kind_of-kind.ensures d e)
+    (marking c.args.visited.now c.requires.0 c.requires.1 c.requires.2 u c.kind_of.ensures d e)
     c.any_uses_context.ensures

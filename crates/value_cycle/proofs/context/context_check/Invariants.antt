@@ -1,4 +1,3 @@
-use Prim.Native.Nat.{◌-◌}
 use mathlib.Core.Bool.{not}
 use Rattle.laws.proofs.First.{Left}
 use Rattle.pack.specs.Named.{refs_of}
@@ -11,6 +10,3 @@ use Rattle.value_cycle.proofs.context.context_check.Given as goal
 abbrev pub invariant-loop-v : goal.invariant-loop-v
 invariant-loop-v l =
     Sized l.visited × Clear l.pack l.c l.visited × Left (λ k. not (uses_context (kind_of l.pack l.c) (refs_of l.pack l.c) l.c.values k)) (λ k. k) l.c.values l.v l.c.values (context_at l.pack l.c)
-
-abbrev pub decreases-loop-v : goal.decreases-loop-v
-decreases-loop-v l = l.n - l.v

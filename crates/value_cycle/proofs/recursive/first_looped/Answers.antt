@@ -25,4 +25,4 @@ loop-d-preserved c =
     loop_passes q.0 q.1 c.loop-d-test.true c.value_at-v.ensures c.loop-d.invariant c.is_looped.ensures c.if-is_looped.false
 
 pub returns : goal.returns
-returns c = ends c.loop-d.invariant c.loop-d-test.false
+returns c = omega (arith, ends c.loop-d.invariant c.loop-d-test.false)

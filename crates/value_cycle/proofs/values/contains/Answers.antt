@@ -2,7 +2,7 @@ use Rattle.value_cycle.proofs.Asks.{items_all, item_found, item_passes, items_ov
 use Rattle.value_cycle.proofs.values.contains.Goals as goal
 
 pub loop-k-init : goal.loop-k-init
-loop-k-init c = items_all _ _ _ _ c.list_len-n.ensures.same
+loop-k-init c = items_all _ _ _ _ c.list_len-k-end.ensures.same
 
 pub returns-then-list_item-w : goal.returns-then-list_item-w
 returns-then-list_item-w c = item_found c.loop-k.invariant c.loop-k-test.true c.list_item.ensures.same c.if-list_item-w.true

@@ -1,31 +1,19 @@
-use Rattle.tarjan.proofs.Sorts.{blank}
+use Rattle.std.proofs.Common.{Err}
+use mathlib.Core.Path.{ap}
 use Rattle.value_cycle.proofs.Outcomes.{refused₅₀, refused₅₁, refused₅₂, all_listed, writes}
-use native.Mathlib.Omega.{arith}
 use Rattle.value_cycle.proofs.whole.find_compilation_order.Goals as goal
 
-pub returns-then-a-n : goal.returns-then-a-n
-returns-then-a-n c = refused₅₀ c.requires c.first_self-a.ensures c.if-a-n.true c.refused.ensures
+pub returns-in-Some : goal.returns-in-Some
+returns-in-Some c = refused₅₀ c.requires c.in-Some.ensures (ap Err c.at.ensures)
 
-pub tarjan-requires : goal.tarjan-requires
-tarjan-requires c = (c.requires.in_range, blank c.empty-listed.ensures, blank c.empty-size.ensures)
+pub returns-in-Some-first_looped : goal.returns-in-Some-first_looped
+returns-in-Some-first_looped c = refused₅₁ c.requires c.in_default.ensures c.in-Some-first_looped.ensures (ap Err c.at-in-Some-first_looped.ensures)
 
-pub first_looped-b-requires : goal.first_looped-b-requires
-first_looped-b-requires c = (c.requires.in_range, c.tarjan.ensures)
-
-pub value_at-requires : goal.value_at-requires
-value_at-requires c = omega (arith, c.if-b-n.true, c.requires.in_range.few)
-
-pub returns-then-b-n : goal.returns-then-b-n
-returns-then-b-n c = refused₅₁ c.requires c.first_self-a.ensures c.if-a-n.false c.tarjan.ensures c.first_looped-b.ensures c.if-b-n.true c.value_at.ensures c.refused-then-b-n.ensures
-
-pub context_check-d-requires : goal.context_check-d-requires
-context_check-d-requires c = c.requires.in_range
-
-pub returns-then-d-n : goal.returns-then-d-n
-returns-then-d-n c = refused₅₂ c.requires c.first_self-a.ensures c.if-a-n.false c.tarjan.ensures c.first_looped-b.ensures c.if-b-n.false c.context_check-d.ensures c.if-d-n.true c.refused-then-d-n.ensures
+pub returns-in-Some-context_check : goal.returns-in-Some-context_check
+returns-in-Some-context_check c = refused₅₂ c.requires c.in_default.ensures c.in_default-first_looped.ensures c.in-Some-context_check.ensures (ap Err c.at-in-Some-context_check.ensures)
 
 pub write_order-requires : goal.write_order-requires
 write_order-requires c = writes c.requires c.tarjan.ensures
 
 pub returns : goal.returns
-returns c = all_listed c.requires c.first_self-a.ensures c.if-a-n.false c.tarjan.ensures c.first_looped-b.ensures c.if-b-n.false c.context_check-d.ensures c.if-d-n.false c.write_order.ensures
+returns c = all_listed c.requires c.in_default.ensures c.in_default-first_looped.ensures c.in_default-context_check.ensures c.tarjan.ensures c.write_order.ensures

@@ -1,0 +1,26 @@
+// Reading the whole input.
+ghost use Rattle.std.specs.Prelude.{ℕ, ◌<◌, ◌≤◌, length, take, IfOk, OnErr};
+ghost use Rattle.std.specs.Io.{ReadsAtMost};
+ghost use Rattle.std.specs.Io.KnownBytes.{Consumes, IsAtEnd};
+
+use std::io;
+use std::io::Read;
+
+// Reads until `buf` is full or the input ends, and answers how many bytes it put at the start of `buf`.
+// Where a read fails, what was read before it stands at the start of `buf`, and the input lost nothing else.
+pub fn read_full<R: Read>(input: &mut R, buf: &mut [u8]) -> io::Result<usize>
+    ensures bound { ReadsAtMost result buf.new }
+    ensures bytes { IfOk result (λ n. Consumes (R.remaining input.old) (R.remaining input.new) (take n buf.new)) }
+    ensures end { IfOk result (λ n. n < length buf.new → IsAtEnd (R.remaining input.new)) }
+    ensures none_lost { OnErr result ((n : ℕ) × (n ≤ length buf.new) × Consumes (R.remaining input.old) (R.remaining input.new) (take n buf.new)) }
+{
+    let mut done = 0;
+    while done < buf.len() {
+        let n = input.read(&mut buf[done..])?;
+        if n == 0 {
+            return Ok(done);
+        }
+        done += n;
+    }
+    Ok(done)
+}

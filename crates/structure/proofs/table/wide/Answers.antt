@@ -1,5 +1,0 @@
-use borrow.Author.Rules.{rules}
-use Rattle.structure.proofs.table.wide.Goals as goal
-
-pub returns : goal.returns
-returns c = record { same = search rules; small = search rules }

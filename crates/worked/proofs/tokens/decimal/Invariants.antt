@@ -1,6 +1,0 @@
--- The measure is what is left of the word.
-use Rattle.std.proofs.Common.{◌-◌, length}
-use Rattle.worked.proofs.tokens.decimal.Given as goal
-
-abbrev pub decreases-loop-i : goal.decreases-loop-i
-decreases-loop-i l = length l.word - l.i
