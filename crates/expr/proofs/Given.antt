@@ -31,7 +31,7 @@ use Rattle.words.specs.Notes.{nodes, code_noted}
 use Rattle.expr.specs.State.{Env, State, Ans, Typing, st, Step, Typed, expected}
 use Rattle.expr.specs.Rules.{recorded, payload_opens}
 use Rattle.expr.specs.Ready.{Coded, Ready, Fielded, Ran, CellsType}
-use Rattle.expr.proofs.Coding.{MarkedIn, never_coded, bool_coded, u8_coded, u32_coded, prefix_coded, recorded_ready, payload_opens_ready, fielded, accessed_coded}
+use Rattle.expr.proofs.Coding.{MarkedIn, never_coded, recorded_ready, payload_opens_ready, fielded, accessed_coded}
 use Rattle.expr.specs.declared.answer.Outcome.{Outcome}
 use Rattle.expr.proofs.Kept.{after, after_type, coded_more}
 use Rattle.expr.proofs.Keeps.{Given}

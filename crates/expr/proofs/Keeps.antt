@@ -6,7 +6,6 @@
 use mathlib.Core.Bool.{Bool, true, false, ◌&&◌, ◌||◌}
 use Prim.Native.Nat.{ℕ, zero, suc, ◌+◌}
 use native.Mathlib.Omega.{arith}
-use borrow.Author.Tests.{eqb-true}
 use Rattle.pack.specs.declared.rows.ExpressionRow.{ExpressionRow}
 use Rattle.unionfind.specs.declared.codes.Kind.TheVariants.{Var}
 use Rattle.members.specs.Field.{accessed_by}
@@ -18,7 +17,7 @@ use Rattle.expr.specs.Rules.{Run, let_rule, stmt_rule, stmts_rule, last_rule, bl
 use Rattle.expr.specs.Ready.{Coded, Fielded, Ready}
 use Rattle.expr.specs.Lent.{env_of}
 use Rattle.expr.specs.declared.state.Env.{Env as Lent}
-use Rattle.expr.proofs.Coding.{MarkedIn, unit_coded, bool_coded, u8_coded, u32_coded, prefix_coded, definition_coded, last_coded, recorded_ready, sealed_ready, opened_ready, close_lets_ready, payload_opens_ready, payload_closes_ready, plan_coded, fielded, field_first, fields_next, accessed_coded}
+use Rattle.expr.proofs.Coding.{MarkedIn, unit_coded, definition_coded, last_coded, recorded_ready, sealed_ready, opened_ready, close_lets_ready, payload_opens_ready, payload_closes_ready, plan_coded, fielded, field_first, fields_next, accessed_coded}
 use Rattle.expr.proofs.Kept.{Keeps, RunKeeps, coded_more, dones, refuses, picks, lets, thens, givens, resolved, fresh_keeps, unify_keeps}
 use Rattle.expr.proofs.Decided.{by_found, by_decided}
 use Rattle.expr.proofs.Leaves.{literal_keeps, slot_keeps, let_type_keeps, bool_first_keeps, operand_type_keeps, result_last_keeps, guard_keeps, accessed_keeps}

@@ -3,7 +3,6 @@
 --     unify_late, fresh_late          the steps of the layers below, whatever the cells hold
 --     plan_late, arm_late, record_late, accessed_late    the tests of operators, arms, records and fields
 -- Assumes nothing.
-use mathlib.Core.Path.{◌≡◌, refl}
 use mathlib.Core.List.{List}
 use mathlib.Core.Bool.{Bool}
 use Prim.Native.Nat.{ℕ, zero, suc, ◌≤◌}

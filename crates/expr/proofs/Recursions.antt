@@ -100,11 +100,10 @@ module _ (run : Run) (e : Env) (id : ℕ) (n : ExpressionRow) (want vars : ℕ) 
   pub at_kind : {j : ℕ} → k ≡ j → z ≡ kind_rule run e id n want vars s j → z ≡ kind_rule run e id n want vars s k
   at_kind h q = q ∙ ap (kind_rule run e id n want vars s) (sym h)
 
-  -- a kind that has no rule of its own
-  pub other_kind : ((((((((Unit {0} × (k ≡ 0 → ⊥)) × (k ≡ 1 → ⊥)) × (k ≡ 2 → ⊥)) × (k ≡ 4 → ⊥)) × (k ≡ 5 → ⊥)) × (k ≡ 6 → ⊥)) × (k ≡ 7 → ⊥)) × (k ≡ 8 → ⊥))
-      → z ≡ refuse StrayLet id s → z ≡ kind_rule run e id n want vars s k
+  -- a kind that no node has
+  pub unknown_kind : 9 ≤ k → z ≡ refuse StrayLet id s → z ≡ kind_rule run e id n want vars s k
   unfolding kind_rule
-  other_kind h q =
-      no _ _ _ (ne_eqb k 0 h.0.0.0.0.0.0.0.1) (no _ _ _ (ne_eqb k 1 h.0.0.0.0.0.0.1) (no _ _ _ (ne_eqb k 2 h.0.0.0.0.0.1)
-      (no _ _ _ (ne_eqb k 4 h.0.0.0.0.1) (no _ _ _ (ne_eqb k 5 h.0.0.0.1) (no _ _ _ (ne_eqb k 6 h.0.0.1)
-      (no _ _ _ (ne_eqb k 7 h.0.1) (no _ _ _ (ne_eqb k 8 h.1) q)))))))
+  unknown_kind h q =
+      no _ _ _ (ne_eqb k 0 (λ e. omega arith)) (no _ _ _ (ne_eqb k 1 (λ e. omega arith)) (no _ _ _ (ne_eqb k 2 (λ e. omega arith))
+      (no _ _ _ (ne_eqb k 4 (λ e. omega arith)) (no _ _ _ (ne_eqb k 5 (λ e. omega arith)) (no _ _ _ (ne_eqb k 6 (λ e. omega arith))
+      (no _ _ _ (ne_eqb k 7 (λ e. omega arith)) (no _ _ _ (ne_eqb k 8 (λ e. omega arith)) q)))))))

@@ -8,7 +8,7 @@ use native.Mathlib.Omega.{arith}
 use Rattle.pack.specs.declared.rows.ExpressionRow.{ExpressionRow}
 use Rattle.unionfind.specs.declared.codes.Kind.{Kind}
 use Rattle.unionfind.specs.declared.codes.Kind.TheVariants.{IntVar, FloatVar}
-use Rattle.laws.specs.declared.fault.Fault.TheVariants.{SlotNotOpen, HoldsVariable}
+use Rattle.laws.specs.declared.fault.Fault.TheVariants.{SlotNotOpen}
 use Rattle.members.specs.Field.{Accessed}
 use Rattle.std.proofs.Common.{Ok, Err}
 use Rattle.expr.specs.State.{Env, State, Ans}

@@ -17,9 +17,8 @@ use arms::{Subject, arm_fault, examined, missing_variants};
 use laws::{Fault, Refusal};
 use members::{accessed, is_list, member_of};
 use operators::{call_number, operator_plan};
-use pack::{ExpressionRow, definition_row, expression_row, list_item, list_len};
+use pack::{ExpressionRow, NodeKind, definition_row, expression_row, list_item, list_len};
 use records::record_fault;
-use report::Node;
 use slots::{close_lets, open_slot};
 use structure::type_code;
 use unify::resolve_type;
@@ -59,7 +58,7 @@ impl<'a> State<'a> {
         ensures ran { let e = env_of env.now in Leaves vars (stmt_rule (expr_rule depth e) e id vars (state_of self.old)) result self.new }
     {
         let n = expression_row(env.pack, env.counts, id);
-        if n.kind == Node::LET {
+        if n.kind == NodeKind::Let as u32 {
             return self.let_stmt(env, depth, id, n, vars);
         }
         let own = fresh_type(self.cells, Kind::Var, vars)?;
@@ -494,17 +493,17 @@ impl<'a> State<'a> {
         ensures loans { SameLoans self.old self.new }
         ensures ran { let e = env_of env.now in Leaves vars (kind_rule (expr_rule depth e) e id n want vars (state_of self.old) n.kind) result self.new }
     {
-        let kind = n.kind;
-        match kind {
-            Node::LITERAL => literal(self.cells, env.marks, id, n, want, vars),
-            Node::SLOT => slot(self.cells, env.marks, self.slots, id, n, want, vars),
-            Node::BLOCK => self.block(env, depth, id, n, want, vars),
-            Node::MATCH => self.match_expr(env, depth, id, n, want, vars),
-            Node::OPERATOR => self.binop(env, depth, id, n, want, vars),
-            Node::RECORD => self.record_fields(env, depth, id, n, want, vars),
-            Node::FIELD => self.access_field(env, depth, id, n, want, vars),
-            Node::RETURN => self.return_expr(env, depth, id, n, vars),
-            _ => Err(Refusal::at(Fault::StrayLet, id)),
+        match NodeKind::try_from(n.kind) {
+            Ok(NodeKind::Literal) => literal(self.cells, env.marks, id, n, want, vars),
+            Ok(NodeKind::Slot) => slot(self.cells, env.marks, self.slots, id, n, want, vars),
+            Ok(NodeKind::Block) => self.block(env, depth, id, n, want, vars),
+            Ok(NodeKind::Let) => Err(Refusal::at(Fault::StrayLet, id)),
+            Ok(NodeKind::Match) => self.match_expr(env, depth, id, n, want, vars),
+            Ok(NodeKind::Operator) => self.binop(env, depth, id, n, want, vars),
+            Ok(NodeKind::Record) => self.record_fields(env, depth, id, n, want, vars),
+            Ok(NodeKind::Field) => self.access_field(env, depth, id, n, want, vars),
+            Ok(NodeKind::Return) => self.return_expr(env, depth, id, n, vars),
+            Err(_) => Err(Refusal::at(Fault::StrayLet, id)),
         }
     }
 

@@ -9,12 +9,12 @@ use borrow.Author.Tests.{eqb-true}
 use Rattle.laws.proofs.First.{each}
 use Rattle.std.proofs.Common.{Ok}
 use Rattle.laws.specs.Faults.{passes}
-use Rattle.pack.specs.Answer.{Reading, refuse}
+use Rattle.pack.specs.Answer.{refuse}
 use Rattle.pack.specs.declared.counts.Counts.{Counts}
 use Rattle.rows.specs.Tables.{rows_of}
 use Rattle.rows.proofs.Promises.{kids_smaller}
 use Rattle.trees.specs.declared.node_test.NodeTest.{NodeTest}
-use Rattle.trees.specs.declared.node_test.NodeTest.TheVariants.{UsedOnce, LetStated, Shallow}
+use Rattle.trees.specs.declared.node_test.NodeTest.TheVariants.{UsedOnce}
 use Rattle.trees.specs.Nodes.{uses_of, node_fits, test_fault, nodes_of}
 use Rattle.trees.specs.Notes.{Notes}
 use Rattle.trees.specs.Trees.{Trees, Noted, Ready}

@@ -9,11 +9,9 @@ ghost use Rattle.trees.specs.Trees.{Ready};
 ghost use Rattle.formed.specs.Formed.{body_of, formed_of, trees_of};
 
 use laws::Refusal;
-use pack::{Counts, expression_row, header};
+use pack::{Counts, NodeKind, expression_row, header};
 use rows::rows;
 use trees::{NodeTest, Notes};
-
-const LET: u32 = 3;
 
 const MAX_DEPTH: u8 = 64;
 
@@ -29,7 +27,7 @@ fn node_fits(pack: &[u8], c: Counts, test: NodeTest, e: u32, notes: &Notes) -> b
     match test {
         NodeTest::UsedOnce => used == 1,
         NodeTest::LetStated => {
-            if row.kind == LET {
+            if row.kind == NodeKind::Let as u32 {
                 place % 2 == 1
             } else {
                 true

@@ -4,7 +4,7 @@
 --     goes     a place that is right is passed
 --     stops    a place that is not is the answer
 --     ends     past the last place there is no fault
--- The same for a test of each place (AllLeft).
+-- The same for a test of each place (AllLeft), and for rows whose rule gives the number of a fault, or 0 (RowsLeft).
 -- What an answer says of the places:
 --     each        where the answer passes and no fault would, each place is right
 --     none_is     and the other way round
@@ -50,6 +50,20 @@ module _ {A : Type 0} {ok : ℕ → Bool} {fault : ℕ → A} {none : A} {i n : 
 
 abbrev pub AllLeft : (ℕ → Bool) → ℕ → ℕ → Bool → Type 0
 AllLeft ok i n whole = Left ok (λ k. false) true i n whole
+
+-- what is left of a table from row i on says what the whole says; x is what the row's function returned
+pub record RowsLeft {A : Type 0} (rule : ℕ → ℕ) (fault : ℕ → A) (none : A) (i n : ℕ) (whole : A) : Type 0 where
+  pub left : Left (λ k. eqb (rule k) 0) fault none i n whole
+
+module _ {A : Type 0} {rule : ℕ → ℕ} {fault : ℕ → A} {none : A} {i n : ℕ} {whole : A} (inv : RowsLeft rule fault none i n whole) where
+  pub row_goes : {x : ℕ} → i < n → x ≡ rule i → x ≡ 0 → RowsLeft rule fault none (i + 1) n whole
+  row_goes l e z = record { left = goes inv.left l (eq e refl z) }
+
+  pub row_stops : {x : ℕ} → i < n → x ≡ rule i → (x ≡ 0 → ⊥) → fault i ≡ whole
+  row_stops l e z = stops inv.left l (ne e refl z)
+
+  pub row_ends : n ≤ i → none ≡ whole
+  row_ends l = ends inv.left l
 
 -- ---- what an answer says of the places
 

@@ -1,21 +1,26 @@
 -- The search of places that rise, and what it finds in the index.
 --     until_only                            the first place that fails is one alone
---     Seeking, seek_ends                    a search by halves, and its end
+--     seats_rise, seek_ends                 a search by halves: what it asks, and what it finds
 --     rising                                the places of one key rise
 --     word_found, word_none                 the first word of the key from a place on
 -- Assumes nothing.
 use mathlib.Core.Path.{◌≡◌, sym, ap, ◌∙◌}
 use mathlib.Core.List.{List}
-use mathlib.Core.Bool.{Bool, not}
-use Prim.Native.Nat.{ℕ, ◌+◌, ◌<◌, ◌≤◌}
+use mathlib.Core.Bool.{Bool, true, false, not}
+use Prim.Native.Nat.{ℕ, ◌+◌, ◌-◌, ◌<◌, ◌≤◌}
 use native.Mathlib.Omega.{arith}
 use lib.Dec.{eqb, ltb}
-use borrow.Author.Tests.{eq-eqb, ne_eqb, lt-ltb, le-ltb, ltb-true, ltb-false}
+use borrow.Author.Tests.{eq-eqb, ne_eqb, ltb-true, ltb-false}
+use Rattle.std.proofs.Common.{length, get_or, take, drop}
+use Rattle.std.proofs.lemmas.List.{get_or-take, get_or-drop, length-take, length-drop}
+use Rattle.std.proofs.lemmas.Grind.{get_or_default_zero}
+use Rattle.std.specs.List.Sorted.{IsNonDecreasingBy, IsPartitionPoint}
 use Rattle.laws.specs.First.{until}
 use Rattle.laws.specs.Bounded.{get}
+use Rattle.laws.proofs.Bounded.{get_in}
 use Rattle.laws.proofs.First.{Until, until_is, at_first, none_is}
 use Rattle.laws.proofs.Members.{by_le}
-use Rattle.names.specs.Index.{no_name, capacity, seat_at, start_of, rank_of, Sorted, Rising}
+use Rattle.names.specs.Index.{no_name, capacity, seats_at, seat_at, start_of, rank_of, Sorted, Rising}
 use Rattle.names.proofs.Ranks.{start_le, start_few, rank_low, rank_high, rank_rises, rank_nth}
 
 pub until_only : (ok : ℕ → Bool) (i n u : ℕ) → Until ok i n u → u ≡ until ok i n
@@ -26,23 +31,38 @@ until_only ok i n u r =
 
 -- ---- a search by halves
 
--- the places below `from` are below x, and those from `to` on are not
-pub record Seeking (table : List ℕ) (x low high from to : ℕ) : Type 0 where
-  pub first : low ≤ from
-  pub order : from ≤ to
-  pub last : to ≤ high
-  pub below : (i : ℕ) → low ≤ i → i < from → seat_at table i < x
-  pub above : (i : ℕ) → to ≤ i → i < high → x ≤ seat_at table i
+module _ {table : List ℕ} {low high : ℕ} (r : Rising table low high) (long : length table ≡ capacity) where
+  -- the seats low .. high - 1, as they are lent to the search
+  abbrev seats : List ℕ
+  seats = take (seats_at + high - (seats_at + low)) (drop (seats_at + low) table)
 
-pub seek_ends : {table : List ℕ} {x low high from to : ℕ} → Seeking table x low high from to → to ≤ from → from ≡ until (λ m. ltb (seat_at table m) x) low high
-seek_ends {table = table} {x = x} {low = low} {high = high} {from = from} s h =
-    until_only (λ m. ltb (seat_at table m) x) low high from
-    (record {
-      low = s.first;
-      high = omega (arith, s.order, s.last);
-      right = λ k a b. lt-ltb (seat_at table k) x (s.below k a b);
-      wrong = λ l. le-ltb (seat_at table from) x (s.above from h l);
-    })
+  seats_long : length seats ≡ high - low
+  seats_long = omega (arith, length-take (seats_at + high - (seats_at + low)) (drop (seats_at + low) table), length-drop (seats_at + low) table, long, r.room, r.order)
+
+  seat : (k d : ℕ) → low + k < high → get_or seats k d ≡ seat_at table (low + k)
+  seat k d h =
+      get_or-take _ (drop (seats_at + low) table) k d (omega arith)
+      ∙ get_or-drop (seats_at + low) table k d
+      ∙ get_or_default_zero table (seats_at + low + k) d (omega (arith, long, r.room))
+      ∙ ap (λ (i : ℕ). get_or table i 0) (omega arith)
+      ∙ get_in capacity table (seats_at + (low + k)) (omega (arith, r.room))
+
+  pub seats_rise : IsNonDecreasingBy (λ y. y) seats
+  seats_rise i j d l h =
+      omega (arith, seats_long, seat i d (omega (arith, seats_long)), seat j d (omega (arith, seats_long)), r.rises (low + i) (low + j) (omega arith) (omega arith) (omega (arith, seats_long)))
+
+  pub seek_ends : (x : ℕ) {b : ℕ} → b ≤ length seats → IsPartitionPoint (λ y. ltb y x ≡ true) (λ y. ltb y x ≡ false) seats b → low + b ≡ until (λ m. ltb (seat_at table m) x) low high
+  seek_ends x {b = b} few point =
+      until_only (λ m. ltb (seat_at table m) x) low high (low + b)
+      (record {
+        low = omega arith;
+        high = omega (arith, few, seats_long, r.order);
+        right = λ k f g. ap (λ (y : ℕ). ltb y x) (at k f (omega (arith, few, seats_long))) ∙ point.0 (k - low) 0 (omega arith) (omega arith);
+        wrong = λ l. ap (λ (y : ℕ). ltb y x) (at (low + b) (omega arith) l) ∙ point.1 (low + b - low) 0 (omega arith) (omega (arith, seats_long));
+      })
+    where
+      at : (k : ℕ) → low ≤ k → k < high → seat_at table k ≡ get_or seats (k - low) 0
+      at k f g = ap (seat_at table) (omega arith) ∙ sym (seat (k - low) 0 (omega arith))
 
 -- ---- the index
 

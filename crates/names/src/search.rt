@@ -12,17 +12,10 @@ fn seek(names: &[u16; NameIndex::CAPACITY], low: u32, high: u32, x: u32) -> u32
     requires { Rising names.now low high }
     ensures { result ≡ until (λ m. ltb (seat_at names.now m) x) low high }
 {
-    let mut from = low;
-    let mut to = high;
-    while from < to {
-        let middle = (from + to) / 2;
-        if entry_at(names, NameIndex::SEATS + middle) < x {
-            from = middle + 1;
-        } else {
-            to = middle;
-        }
-    }
-    from
+    let from = (NameIndex::SEATS + low) as usize;
+    let to = (NameIndex::SEATS + high) as usize;
+    let below = names[from..to].partition_point(|seat| u32::from(*seat) < x);
+    low + below as u32
 }
 
 // The first seat from x on whose word has the key, the number of all words where there is none.

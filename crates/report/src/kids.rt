@@ -4,50 +4,24 @@ ghost use Rattle.laws.specs.Bounded.{Reads};
 ghost use Rattle.pack.specs.Named.{optional};
 ghost use Rattle.report.specs.Kids.{most, kids_room, kid_at, block_kid, arm_kid, first_or};
 
-use pack::{Counts, ExpressionRow, list_item, list_len};
-
-// The kinds of expression rows.
-#[derive(Clone, Copy)]
-pub struct Node {
-    pub kind: u32,
-}
-
-impl Node {
-    pub const LITERAL: u32 = 0;
-
-    pub const SLOT: u32 = 1;
-
-    pub const BLOCK: u32 = 2;
-
-    pub const LET: u32 = 3;
-
-    pub const MATCH: u32 = 4;
-
-    pub const OPERATOR: u32 = 5;
-
-    pub const RECORD: u32 = 6;
-
-    pub const FIELD: u32 = 7;
-
-    pub const RETURN: u32 = 8;
-}
+use pack::{Counts, ExpressionRow, NodeKind, list_item, list_len};
 
 // How many places for children a row has.
 #[tactic(auto, unfolding(crate::specs::Kids::kids_room, laws::specs::Choice::by_kind))]
 pub fn kids_room(pack: &[u8], c: Counts, row: ExpressionRow) -> u32
     ensures { Reads result (kids_room pack.now c row) most }
 {
-    match row.kind {
-        Node::LITERAL => 0,
-        Node::SLOT => 0,
-        Node::BLOCK => list_len(pack, c, row.a) + 1,
-        Node::LET => 1,
-        Node::MATCH => 2 * list_len(pack, c, row.b) + 1,
-        Node::OPERATOR => 2,
-        Node::RECORD => list_len(pack, c, row.b),
-        Node::FIELD => 1,
-        Node::RETURN => 1,
-        _ => 0,
+    match NodeKind::try_from(row.kind) {
+        Ok(NodeKind::Literal) => 0,
+        Ok(NodeKind::Slot) => 0,
+        Ok(NodeKind::Block) => list_len(pack, c, row.a) + 1,
+        Ok(NodeKind::Let) => 1,
+        Ok(NodeKind::Match) => 2 * list_len(pack, c, row.b) + 1,
+        Ok(NodeKind::Operator) => 2,
+        Ok(NodeKind::Record) => list_len(pack, c, row.b),
+        Ok(NodeKind::Field) => 1,
+        Ok(NodeKind::Return) => 1,
+        Err(_) => 0,
     }
 }
 
@@ -100,16 +74,16 @@ pub fn kid_at(pack: &[u8], c: Counts, row: ExpressionRow, k: u32) -> Option<u32>
     requires { k < most }
     ensures { option_to_list result ≡ kid_at pack.now c row k }
 {
-    match row.kind {
-        Node::LITERAL => None,
-        Node::SLOT => None,
-        Node::BLOCK => block_kid(pack, c, row.a, row.b, k),
-        Node::LET => Some(row.b),
-        Node::MATCH => arm_kid(pack, c, row.a, row.b, k),
-        Node::OPERATOR => Some(first_or(row.a, row.b, k)),
-        Node::RECORD => Some(list_item(pack, c, row.b, 2 * k + 1)),
-        Node::FIELD => Some(row.a),
-        Node::RETURN => stored(row.a),
-        _ => None,
+    match NodeKind::try_from(row.kind) {
+        Ok(NodeKind::Literal) => None,
+        Ok(NodeKind::Slot) => None,
+        Ok(NodeKind::Block) => block_kid(pack, c, row.a, row.b, k),
+        Ok(NodeKind::Let) => Some(row.b),
+        Ok(NodeKind::Match) => arm_kid(pack, c, row.a, row.b, k),
+        Ok(NodeKind::Operator) => Some(first_or(row.a, row.b, k)),
+        Ok(NodeKind::Record) => Some(list_item(pack, c, row.b, 2 * k + 1)),
+        Ok(NodeKind::Field) => Some(row.a),
+        Ok(NodeKind::Return) => stored(row.a),
+        Err(_) => None,
     }
 }

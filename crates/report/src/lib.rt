@@ -4,5 +4,4 @@
 mod kids;
 mod tree;
 
-pub use kids::Node;
 pub use tree::write_root;

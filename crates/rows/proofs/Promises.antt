@@ -13,12 +13,12 @@ use mathlib.Core.Logic.{⊎_elim}
 use mathlib.Core.Bool.{Bool, true, ◌&&◌}
 use mathlib.Core.List.{List, [], ◌∷◌, ◌++◌}
 use native.Mathlib.Omega.{arith}
-use lib.Dec.{eqb, leb, ltb}
-use borrow.Author.Tests.{eqb-true, ltb-true, ne_eqb}
+use lib.Dec.{leb, ltb}
+use borrow.Author.Tests.{ltb-true, ne_eqb}
 use Rattle.std.proofs.Common.{Option, Some, None, Ok}
 use Rattle.laws.specs.Faults.{passes, faulted}
 use Rattle.laws.specs.declared.fault.Fault.{Fault}
-use Rattle.laws.specs.declared.fault.Fault.TheVariants.{UnknownRow, OutOfRange, NotDistinct}
+use Rattle.laws.specs.declared.fault.Fault.TheVariants.{UnknownRow, OutOfRange}
 use Rattle.laws.specs.Choice.{pick, by_kind}
 use Rattle.laws.specs.Lists.{In, gather}
 use Rattle.laws.proofs.Choice.{fails, tested, and_both}

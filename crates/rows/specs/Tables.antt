@@ -1,11 +1,13 @@
 -- "rows in table order": the five tables, 0 types, 1 definitions, 2 expressions, 3 roots, 4 values.
-use Rattle.std.specs.Prelude.{ℕ, List, [], ◌∷◌, eqb, get_or, Option, None, Ok}
+use Rattle.std.specs.Prelude.{ℕ, List, [], ◌∷◌, get_or, Option, None, Ok}
 use Rattle.laws.specs.Choice.{by_kind}
 use Rattle.laws.specs.Faults.{passes, faulted}
 use Rattle.laws.specs.First.{first}
 use Rattle.laws.specs.declared.fault.Fault.{Fault}
 use Rattle.pack.specs.Answer.{Reading}
 use Rattle.pack.specs.declared.counts.Counts.{Counts}
+use Rattle.rows.specs.declared.table.Table.{Table}
+use Rattle.rows.specs.declared.table.Table.TheVariants.{Types, Definitions, Expressions, Roots, Values}
 use Rattle.rows.specs.Types.{type_rule}
 use Rattle.rows.specs.Definitions.{definition_rule}
 use Rattle.rows.specs.Expressions.{expression_rule}
@@ -14,6 +16,13 @@ use Rattle.rows.specs.Values.{value_rule}
 
 abbrev pub tables : ℕ
 tables = 5
+
+abbrev pub table_number : Table → ℕ
+table_number Types = 0
+table_number Definitions = 1
+table_number Expressions = 2
+table_number Roots = 3
+table_number Values = 4
 
 -- how many rows a table has
 abbrev pub rows_in : Counts → ℕ → ℕ

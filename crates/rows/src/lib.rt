@@ -6,6 +6,7 @@ mod definitions;
 mod expressions;
 mod faults;
 mod roots;
+mod table;
 mod tables;
 mod types;
 mod values;

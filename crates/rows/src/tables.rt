@@ -2,50 +2,36 @@
 ghost use Rattle.std.specs.Prelude.{◌≡◌, true, ◌≤◌};
 ghost use Rattle.pack.specs.Counts.{in_limits};
 ghost use Rattle.lists.specs.Peaks.{Peaks as PeaksOf, never};
-ghost use Rattle.rows.specs.Tables.{rows_in, row_rule, table_of, rows_of};
+ghost use Rattle.rows.specs.Tables.{table_number, row_rule, table_of, rows_of};
 
 use crate::definitions::definition_rule;
 use crate::expressions::expression_rule;
 use crate::roots::root_rule;
+use crate::table::Table;
 use crate::types::type_rule;
 use crate::values::value_rule;
 use laws::{Fault, Refusal};
 use lists::{Peaks, fill_tree};
 use pack::Counts;
 
-const TABLES: u32 = 5;
-
-fn rows_in(c: Counts, table: u32) -> u32
-    ensures { result ≡ rows_in c table }
-{
-    match table {
-        0 => c.types,
-        1 => c.definitions,
-        2 => c.expressions,
-        3 => c.roots,
-        4 => c.values,
-        _ => 0,
-    }
-}
-
 // The first fault of row i of a table, if it has one.
+#[tactic(auto, unfolding(crate::specs::Tables::row_rule, laws::specs::Choice::by_kind))]
 fn row_rule(
     pack: &[u8],
     c: Counts,
-    table: u32,
+    table: Table,
     i: u32,
     peaks: &[u16; Peaks::CAPACITY],
 ) -> Option<Fault>
     requires { PeaksOf pack.now c peaks.now × (i ≤ never) }
-    ensures { result ≡ row_rule pack.now c table i }
+    ensures { result ≡ row_rule pack.now c (table_number table) i }
 {
     match table {
-        0 => type_rule(pack, c, i, peaks),
-        1 => definition_rule(pack, c, i, peaks),
-        2 => expression_rule(pack, c, i, peaks),
-        3 => root_rule(pack, c, i, peaks),
-        4 => value_rule(pack, c, i, peaks),
-        _ => None,
+        Table::Types => type_rule(pack, c, i, peaks),
+        Table::Definitions => definition_rule(pack, c, i, peaks),
+        Table::Expressions => expression_rule(pack, c, i, peaks),
+        Table::Roots => root_rule(pack, c, i, peaks),
+        Table::Values => value_rule(pack, c, i, peaks),
     }
 }
 
@@ -53,19 +39,18 @@ fn row_rule(
 fn table_rows(
     pack: &[u8],
     c: Counts,
-    table: u32,
+    table: Table,
     peaks: &[u16; Peaks::CAPACITY],
 ) -> Result<Counts, Refusal>
     requires { PeaksOf pack.now c peaks.now × (in_limits c ≡ true) }
-    ensures { result ≡ table_of pack.now c table }
+    ensures { result ≡ table_of pack.now c (table_number table) }
 {
-    let n = rows_in(c, table);
-    for i in 0..n {
+    for i in 0..table.len(c) {
         if let Some(fault) = row_rule(pack, c, table, i, peaks) {
             return Err(Refusal {
                 fault: fault,
                 place: i,
-                detail: u64::from(table),
+                detail: u64::from(table.number()),
             });
         }
     }
@@ -77,9 +62,11 @@ fn all_tables(pack: &[u8], c: Counts, peaks: &[u16; Peaks::CAPACITY]) -> Result<
     requires { PeaksOf pack.now c peaks.now × (in_limits c ≡ true) }
     ensures { result ≡ rows_of pack.now c }
 {
-    for table in 0..TABLES {
-        table_rows(pack, c, table, peaks)?;
-    }
+    table_rows(pack, c, Table::Types, peaks)?;
+    table_rows(pack, c, Table::Definitions, peaks)?;
+    table_rows(pack, c, Table::Expressions, peaks)?;
+    table_rows(pack, c, Table::Roots, peaks)?;
+    table_rows(pack, c, Table::Values, peaks)?;
     Ok(c)
 }
 

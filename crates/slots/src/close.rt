@@ -3,9 +3,7 @@ ghost use Rattle.std.specs.Prelude.{◌≡◌, [], ◌∷◌};
 ghost use Rattle.slots.specs.Slots.{shut, let_slot, close_list, close_lets};
 
 use crate::slots::{Slots, put_slot};
-use pack::{Counts, expression_row, list_item, list_len};
-
-const LET: u32 = 3;
+use pack::{Counts, NodeKind, expression_row, list_item, list_len};
 
 #[tactic(auto, unfolding(crate::specs::Slots::shut))]
 fn close_slot(slots: &mut [u32; Slots::CAPACITY], a: u32)
@@ -20,7 +18,7 @@ fn close_let(pack: &[u8], c: Counts, slots: &mut [u32; Slots::CAPACITY], e: u32)
     ensures { slots.new ≡ shut slots.old (let_slot pack.now c e) }
 {
     let row = expression_row(pack, c, e);
-    if row.kind == LET {
+    if row.kind == NodeKind::Let as u32 {
         close_slot(slots, row.a);
     }
 }

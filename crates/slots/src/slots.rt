@@ -3,6 +3,8 @@ ghost use Rattle.std.specs.Prelude.{◌≡◌, replicate};
 ghost use Rattle.laws.specs.Bounded.{get, put};
 ghost use Rattle.slots.specs.Slots.{slots as slot_count};
 
+use laws::{get_at, put_at};
+
 #[derive(Drop)]
 pub struct Slots {
     pub slots: [u32; Slots::CAPACITY],
@@ -27,18 +29,14 @@ impl Slots {
     }
 }
 
-#[tactic(auto, unfolding(laws::specs::Bounded::get, laws::specs::Choice::pick))]
 pub fn slot_at(slots: &[u32; Slots::CAPACITY], a: u32) -> u32
     ensures { result ≡ get slot_count slots.now a }
 {
-    slots.get(a as usize).copied().unwrap_or(Slots::UNBOUND)
+    get_at(slots, a)
 }
 
-#[tactic(auto, unfolding(laws::specs::Bounded::put, laws::specs::Choice::pick))]
 pub fn put_slot(slots: &mut [u32; Slots::CAPACITY], a: u32, holds: u32)
     ensures { slots.new ≡ put slot_count slots.old a holds }
 {
-    if (a as usize) < Slots::CAPACITY {
-        slots[a as usize] = holds;
-    }
+    put_at(slots, a, holds)
 }

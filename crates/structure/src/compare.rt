@@ -7,6 +7,7 @@ ghost use Rattle.structure.specs.Tree.{Compared, Apart};
 use crate::table::TypeTable;
 
 // The first of n words from a and b on, STEP words from one to the next, that differ.
+#[inline(never)]
 fn words_apart<const STEP: usize>(
     look: &[u16; TypeTable::LOOKS],
     a: usize,

@@ -12,7 +12,6 @@ use crate::lists::{list_held, lists_like, words_held};
 use crate::slots::{slot_at, sort_at};
 use crate::table::{TypeTable, entry_at, linked};
 use crate::tree::ListTrees;
-use laws::flag;
 use pack::Counts;
 
 // The number of a list, and whether a type of it is marked.
@@ -164,7 +163,7 @@ impl KnownLists {
         ensures { self.new ≡ record self.old { numbers = set self.old.numbers i l.number; helds = set self.old.helds i (bit l.held) } }
     {
         self.numbers[i as usize] = l.number;
-        self.helds[i as usize] = flag(l.held);
+        self.helds[i as usize] = u32::from(l.held);
     }
 
     // The list of row i, found or put into its tree, and what is known of it.

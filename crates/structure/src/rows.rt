@@ -6,11 +6,8 @@ ghost use Rattle.structure.specs.Structure.{rows, numbered, number_of, is_var_ki
 ghost use Rattle.structure.specs.Table.{entry, first_of, key_of, mark_of, entry_or};
 
 use crate::table::{TypeTable, entry_at};
-use laws::flag;
-use pack::{TypeRow, type_row};
+use pack::{TypeKind, TypeRow, type_row};
 use unionfind::Tag;
-
-const FUNCTION: u32 = 6;
 
 const ROWS: u32 = 2048;
 
@@ -18,14 +15,28 @@ const ROWS: u32 = 2048;
 fn is_numbered(kind: u32) -> bool
     ensures { result ≡ numbered kind }
 {
-    matches!(kind, 2..=4 | 7..=10)
+    matches!(
+        TypeKind::try_from(kind),
+        Ok(
+            TypeKind::Primitive
+                | TypeKind::Explicit
+                | TypeKind::Named
+                | TypeKind::Var
+                | TypeKind::IntVar
+                | TypeKind::FloatVar
+                | TypeKind::RecordVar,
+        )
+    )
 }
 
 #[tactic(auto, unfolding(crate::specs::Structure::is_var_kind))]
 fn is_var_kind(kind: u32) -> bool
     ensures { result ≡ is_var_kind kind }
 {
-    matches!(kind, 7..=10)
+    matches!(
+        TypeKind::try_from(kind),
+        Ok(TypeKind::Var | TypeKind::IntVar | TypeKind::FloatVar | TypeKind::RecordVar)
+    )
 }
 
 #[tactic(auto, unfolding(crate::specs::Structure::number_of, laws::specs::Choice::pick))]
@@ -41,7 +52,7 @@ fn first_of(pack: &[u8], same: &[u32; TypeTable::CAPACITY], i: u32) -> u32
     ensures { result ≡ first_of (entry same.now) (type_row pack.now i) }
 {
     let row = type_row(pack, i);
-    if row.kind == FUNCTION {
+    if row.kind == TypeKind::Function as u32 {
         entry_at(same, row.a)
     } else {
         row_number(row)
@@ -83,6 +94,6 @@ pub fn mark_at(pack: &[u8], marks: &[u32; TypeTable::CAPACITY], i: u32, held: bo
 {
     let row = type_row(pack, i);
     let own = is_var_kind(row.kind);
-    let returned = row.kind == FUNCTION && entry_at(marks, row.a) != 0;
-    flag(own || returned || held)
+    let returned = row.kind == TypeKind::Function as u32 && entry_at(marks, row.a) != 0;
+    u32::from(own || returned || held)
 }

@@ -5,20 +5,23 @@ ghost use Rattle.laws.specs.Bounded.{Reads};
 ghost use Rattle.pack.specs.Rows.{type_row};
 ghost use Rattle.structure.specs.Lists.{slot_of, sort_of, of_pairs, len_at, name_at, part_at};
 
-use pack::{Counts, list_item, list_len, type_row};
+use pack::{Counts, TypeKind, list_item, list_len, type_row};
 
 // The slot of rows that have no list.
 const NO_LIST: u32 = 32768;
 
-#[tactic(auto, using(crate::proofs::Reading::row_small))]
+#[tactic(auto, using(crate::proofs::Reading::row_small), unfolding(crate::specs::Lists::slot_of, crate::specs::Lists::listed, crate::specs::Structure::paired, laws::specs::Choice::pick))]
 pub fn slot_at(pack: &[u8], i: u32) -> u32
     ensures { Reads result (slot_of (type_row pack.now i)) 32769 }
 {
     let row = type_row(pack, i);
-    match row.kind {
-        5 | 10 => 2 * row.b + 1,
-        4 | 6 => 2 * row.b,
-        _ => NO_LIST,
+    let kind = row.kind;
+    if kind == TypeKind::Record as u32 || kind == TypeKind::RecordVar as u32 {
+        2 * row.b + 1
+    } else if kind == TypeKind::Named as u32 || kind == TypeKind::Function as u32 {
+        2 * row.b
+    } else {
+        NO_LIST
     }
 }
 

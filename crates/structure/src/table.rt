@@ -4,6 +4,8 @@ ghost use Rattle.laws.specs.Bounded.{get, Reads};
 ghost use Rattle.structure.specs.Structure.{rows};
 ghost use Rattle.structure.specs.Table.{Clear, Link};
 
+use laws::get_at;
+
 #[derive(Drop)]
 pub struct TypeTable {
     pub same: [u32; TypeTable::CAPACITY],
@@ -40,15 +42,10 @@ impl TypeTable {
 }
 
 // What an array of the table has for row k, 0 past its end.
-#[tactic(auto, using(laws::proofs::Bounded::get_in, laws::proofs::Bounded::get_out))]
 pub fn entry_at(xs: &[u32; TypeTable::CAPACITY], k: u32) -> u32
     ensures { result ≡ get rows xs.now k }
 {
-    if (k as usize) < TypeTable::CAPACITY {
-        xs[k as usize]
-    } else {
-        0
-    }
+    get_at(xs, k)
 }
 
 pub fn wide(x: u16) -> u32

@@ -111,6 +111,7 @@ impl ListTrees {
     }
 
     // The walk of the list at s from row k on.
+    #[inline(never)]
     pub fn walk(&self, look: &[u16; TypeTable::LOOKS], i: u32, s: u32, k: u32) -> Stop
         requires { (k < i) × Sound self.now i }
         ensures { Walked (look_at look.now s) self.now.cells self.now.tests self.now.members.keys i k result }

@@ -8,7 +8,7 @@ ghost use Rattle.structure.specs.Types.{var_code, plain_code, is_bare, code_in, 
 
 use crate::rows::row_number;
 use crate::table::{TypeTable, entry_at};
-use pack::{Counts, list_len, type_row};
+use pack::{Counts, TypeKind, list_len, type_row};
 use unionfind::{Tag, code_of, number_of, tag_of};
 
 #[tactic(auto, unfolding(crate::specs::Types::var_code, laws::specs::Choice::pick))]
@@ -16,10 +16,10 @@ fn var_code(kind: u32, number: u32, other: u32) -> u32
     requires { number < numbers }
     ensures { result ≡ var_code kind number other }
 {
-    match kind {
-        7 => code_of(Tag::VAR, number),
-        8 => code_of(Tag::INT_VAR, number),
-        9 => code_of(Tag::FLOAT_VAR, number),
+    match TypeKind::try_from(kind) {
+        Ok(TypeKind::Var) => code_of(Tag::VAR, number),
+        Ok(TypeKind::IntVar) => code_of(Tag::INT_VAR, number),
+        Ok(TypeKind::FloatVar) => code_of(Tag::FLOAT_VAR, number),
         _ => other,
     }
 }
@@ -29,10 +29,10 @@ fn plain_code(kind: u32, number: u32, bare: bool, other: u32) -> u32
     requires { number < numbers }
     ensures { result ≡ plain_code kind number bare other }
 {
-    match kind {
-        0 => code_of(Tag::NEVER, 0),
-        1 => code_of(Tag::UNIT, 0),
-        2 => code_of(Tag::PRIMITIVE, number),
+    match TypeKind::try_from(kind) {
+        Ok(TypeKind::Never) => code_of(Tag::NEVER, 0),
+        Ok(TypeKind::Unit) => code_of(Tag::UNIT, 0),
+        Ok(TypeKind::Primitive) => code_of(Tag::PRIMITIVE, number),
         _ if bare => code_of(Tag::DEFINITION, number),
         _ => other,
     }
@@ -43,7 +43,7 @@ fn is_bare(pack: &[u8], c: Counts, i: u32) -> bool
     ensures { result ≡ is_bare pack.now c (type_row pack.now i) }
 {
     let row = type_row(pack, i);
-    row.kind == 4 && list_len(pack, c, row.b) == 0
+    row.kind == TypeKind::Named as u32 && list_len(pack, c, row.b) == 0
 }
 
 #[tactic(auto, using(crate::proofs::Reading::number_of_small))]

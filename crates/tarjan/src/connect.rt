@@ -5,7 +5,7 @@ ghost use Rattle.pack.specs.Named.{items_of};
 ghost use Rattle.components.specs.Found.{index as number};
 ghost use Rattle.components.specs.Tarjan.{State, follow as followOf, follow_all};
 ghost use Rattle.tarjan.specs.Values.{InRange};
-ghost use Rattle.tarjan.specs.Search.{Holds, Gives, Stands, Leads, visit, Blank, Sorted};
+ghost use Rattle.tarjan.specs.Search.{Holds, Gives, Stands, Leads, visit, Sorted};
 
 use crate::search::Search;
 use crate::values::list_of;
@@ -66,12 +66,14 @@ impl Search {
 }
 
 // Visits every value, from the smallest on: the listing, and the size of each value's component.
-pub fn tarjan(pack: &[u8], c: Counts, search: &mut Search)
-    requires { InRange pack.now c × Blank search.old }
-    ensures { Sorted pack.now c search.new.listing }
+pub fn tarjan(pack: &[u8], c: Counts) -> Search
+    requires { InRange pack.now c }
+    ensures { Sorted pack.now c result.listing }
 {
+    let mut search = Search::empty();
     let mut low = 0;
     for v in 0..c.values {
         low = search.follow(pack, c, v, low);
     }
+    search
 }

@@ -8,7 +8,7 @@ ghost use Rattle.trees.specs.Trees.{Clean, Noted};
 
 use crate::kids::Kids;
 use crate::notes::Notes;
-use pack::{Counts, ExpressionRow, expression_row, root_row};
+use pack::{Counts, ExpressionRow, NodeKind, expression_row, root_row};
 
 // The depth below a place, counted up to 65, one past the deepest that is allowed.
 fn depth_below(place: u8) -> u8
@@ -23,7 +23,7 @@ impl Notes {
         requires { HopsOf pack.now c self.old.uses self.old.hops }
         ensures { Noting (told self.new) (note_all (row_statements pack.now c row) place (told self.old)) pack.now c self.new.hops }
     {
-        if row.kind == 2 {
+        if row.kind == NodeKind::Block as u32 {
             self.note_list(pack, c, Kids::Items, row.a, place);
         }
     }
@@ -33,34 +33,33 @@ impl Notes {
         requires { HopsOf pack.now c self.old.uses self.old.hops }
         ensures { Noting (told self.new) (note_all (row_operands pack.now c row) place (told self.old)) pack.now c self.new.hops }
     {
-        let kind = row.kind;
-        match kind {
-            0 => {}
-            1 => {}
-            2 => {
+        match NodeKind::try_from(row.kind) {
+            Ok(NodeKind::Literal) => {}
+            Ok(NodeKind::Slot) => {}
+            Ok(NodeKind::Block) => {
                 self.note_optional(row.b, place);
             }
-            3 => {
+            Ok(NodeKind::Let) => {
                 self.note(row.b, place);
             }
-            4 => {
+            Ok(NodeKind::Match) => {
                 self.note(row.a, place);
                 self.note_list(pack, c, Kids::Arms, row.b, place);
             }
-            5 => {
+            Ok(NodeKind::Operator) => {
                 self.note(row.a, place);
                 self.note(row.b, place);
             }
-            6 => {
+            Ok(NodeKind::Record) => {
                 self.note_list(pack, c, Kids::Seconds, row.b, place);
             }
-            7 => {
+            Ok(NodeKind::Field) => {
                 self.note(row.a, place);
             }
-            8 => {
+            Ok(NodeKind::Return) => {
                 self.note_optional(row.a, place);
             }
-            _ => {}
+            Err(_) => {}
         }
     }
 

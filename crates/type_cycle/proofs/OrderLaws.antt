@@ -20,7 +20,7 @@ use Rattle.laws.proofs.Choice.{by_eq, by_test}
 use Rattle.laws.proofs.Members.{by_le}
 use Rattle.laws.proofs.First.{at_first, none_is}
 use Rattle.pack.specs.Named.{field_types_of}
-use Rattle.pack.specs.Answer.{Reading, refuse}
+use Rattle.pack.specs.Answer.{refuse}
 use Rattle.pack.specs.declared.counts.Counts.{Counts}
 use Rattle.type_cycle.specs.Cycles.{on_cycle, cycle_of}
 use Rattle.type_cycle.specs.Graph.{at_name, Round}

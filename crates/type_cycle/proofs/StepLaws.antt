@@ -10,7 +10,7 @@ use borrow.Author.Tests.{lt-ltb, le-ltb}
 use Rattle.std.proofs.lemmas.List.{set-get_or}
 use Rattle.laws.specs.Choice.{pick, by_kind}
 use Rattle.laws.specs.Lists.{gather}
-use Rattle.laws.proofs.Choice.{by_test, yes, no, fails, NoneOf, past_kinds}
+use Rattle.laws.proofs.Choice.{by_test, yes, no, fails}
 use Rattle.laws.proofs.Lists.{in_gather}
 use Rattle.laws.proofs.Members.{by_le}
 use Rattle.pack.specs.Lists.{list_len, list_item}
@@ -53,10 +53,6 @@ module _ (p : List ℕ) (c : Counts) (r : DefinitionRow) where
   unfolding fields_of by_kind
   record_row e = rw e
 
-  other_row : NoneOf r.kind 2 → [] ≡ fields_of p c r
-  unfolding fields_of
-  other_row n = past_kinds r r.kind [] _ n
-
 module _ (p : List ℕ) (c : Counts) (d : ℕ) {r : DefinitionRow} (q : r ≡ definition_row p c d) where
   row_types : fields_of p c r ≡ field_types_of p c d
   unfolding field_types_of
@@ -67,9 +63,6 @@ module _ (p : List ℕ) (c : Counts) (d : ℕ) {r : DefinitionRow} (q : r ≡ de
 
   pub record_types : r.kind ≡ 1 → list_types p c Fields r.list ≡ field_types_of p c d
   record_types e = items_fields p c r.list ∙ record_row p c r e ∙ row_types
-
-  pub no_types : NoneOf r.kind 2 → [] ≡ field_types_of p c d
-  no_types n = other_row p c r n ∙ row_types
 
 -- ---- rows
 
@@ -93,32 +86,10 @@ quiet_row p c r (suc (suc (suc (suc (suc zero))))) e a b l = absurd (b refl)
 quiet_row p c r (suc (suc (suc (suc (suc (suc zero)))))) e a b l = rw e refl
 quiet_row p c r (suc (suc (suc (suc (suc (suc (suc k))))))) e a b l = absurd (omega arith)
 
-variable_row : (p : List ℕ) (c : Counts) (r : TypeRow) (kind : ℕ) → r.kind ≡ kind → 7 ≤ kind → kind ≤ 10 → unresolved ∷ [] ≡ row_ahead p c r
-unfolding row_ahead by_kind
-variable_row p c r zero e l h = absurd (omega arith)
-variable_row p c r (suc zero) e l h = absurd (omega arith)
-variable_row p c r (suc (suc zero)) e l h = absurd (omega arith)
-variable_row p c r (suc (suc (suc zero))) e l h = absurd (omega arith)
-variable_row p c r (suc (suc (suc (suc zero)))) e l h = absurd (omega arith)
-variable_row p c r (suc (suc (suc (suc (suc zero))))) e l h = absurd (omega arith)
-variable_row p c r (suc (suc (suc (suc (suc (suc zero)))))) e l h = absurd (omega arith)
-variable_row p c r (suc (suc (suc (suc (suc (suc (suc zero))))))) e l h = rw e refl
-variable_row p c r (suc (suc (suc (suc (suc (suc (suc (suc zero)))))))) e l h = rw e refl
-variable_row p c r (suc (suc (suc (suc (suc (suc (suc (suc (suc zero))))))))) e l h = rw e refl
-variable_row p c r (suc (suc (suc (suc (suc (suc (suc (suc (suc (suc zero)))))))))) e l h = rw e refl
-variable_row p c r (suc (suc (suc (suc (suc (suc (suc (suc (suc (suc (suc k))))))))))) e l h = absurd (omega arith)
-
 module _ (p : List ℕ) (c : Counts) (r : TypeRow) where
   -- neither a named type nor a record nor past the functions
   pub quiet_ahead : (r.kind ≡ 4 → ⊥) → (r.kind ≡ 5 → ⊥) → r.kind < 7 → [] ≡ row_ahead p c r
   quiet_ahead = quiet_row p c r r.kind refl
-
-  pub variables_ahead : 7 ≤ r.kind → r.kind ≤ 10 → unresolved ∷ [] ≡ row_ahead p c r
-  variables_ahead = variable_row p c r r.kind refl
-
-  pub past_ahead : 11 ≤ r.kind → [] ≡ row_ahead p c r
-  unfolding row_ahead
-  past_ahead l = past_kinds r r.kind [] _ (((((((((((tt, (λ e. omega arith)), (λ e. omega arith)), (λ e. omega arith)), (λ e. omega arith)), (λ e. omega arith)), (λ e. omega arith)), (λ e. omega arith)), (λ e. omega arith)), (λ e. omega arith)), (λ e. omega arith)), (λ e. omega arith))
 
 -- ---- places
 

@@ -7,7 +7,7 @@ ghost use Rattle.type_cycle.specs.Search.{state, Can, Visited, Settled};
 use crate::readers::{definition_of, item_of, length_of};
 use crate::search::Search;
 use crate::skips::{Listed, Skips};
-use pack::{Counts, TypeRow, type_row};
+use pack::{Counts, DefinitionKind, TypeKind, TypeRow, type_row};
 
 impl Search {
     // A definition: its fields, once. It is listed when it is left.
@@ -26,15 +26,15 @@ impl Search {
 
     // The types of a definition's fields. Runtime and list definitions have none.
     #[cycle(visits)]
+    #[tactic(auto, using(crate::proofs::VisitLaws::nothing), unfolding(pack::specs::Named::field_types_of, pack::specs::Named::fields_of, laws::specs::Choice::by_kind))]
     pub fn visit_fields(&mut self, pack: &[u8], c: &Counts, d: u32)
         requires { (d < c.now.definitions) × Can pack.now c.now self.old.marks }
         ensures { Visited pack.now c.now (field_types_of pack.now c.now d) (state self.old) (state self.new) }
     {
         let row = definition_of(pack, c, d);
-        let kind = row.kind;
-        match kind {
-            0 => self.visit_list(pack, c, Listed::Variants, row.list),
-            1 => self.visit_list(pack, c, Listed::Fields, row.list),
+        match DefinitionKind::try_from(row.kind) {
+            Ok(DefinitionKind::Enum) => self.visit_list(pack, c, Listed::Variants, row.list),
+            Ok(DefinitionKind::Record) => self.visit_list(pack, c, Listed::Fields, row.list),
             _ => {}
         }
     }
@@ -89,15 +89,16 @@ impl Search {
 
     // What a type's row leads to: a named type to its definition, a record to its parts, a variable to the mark that says so.
     #[cycle(visits)]
+    #[tactic(auto, using(crate::proofs::VisitLaws::nothing), unfolding(crate::specs::Graph::row_ahead, laws::specs::Choice::by_kind))]
     fn visit_row(&mut self, pack: &[u8], c: &Counts, row: TypeRow)
         requires { RowInside pack.now c.now row × Can pack.now c.now self.old.marks }
         ensures { Visited pack.now c.now (row_ahead pack.now c.now row) (state self.old) (state self.new) }
     {
-        let kind = row.kind;
-        match kind {
-            4 => self.visit_name(pack, c, row.a),
-            5 => self.visit_list(pack, c, Listed::Fields, row.b),
-            7..=10 => self.visit_variable(),
+        match TypeKind::try_from(row.kind) {
+            Ok(TypeKind::Named) => self.visit_name(pack, c, row.a),
+            Ok(TypeKind::Record) => self.visit_list(pack, c, Listed::Fields, row.b),
+            Ok(TypeKind::Var | TypeKind::IntVar | TypeKind::FloatVar | TypeKind::RecordVar) =>
+                self.visit_variable(),
             _ => {}
         }
     }

@@ -6,8 +6,8 @@ ghost use Rattle.tarjan.specs.Values.{InRange};
 ghost use Rattle.value_cycle.specs.Order.{context_at, Finds};
 ghost use Rattle.value_cycle.specs.Context.{Sized, Seeks, SeeksIn, Asks};
 
-use crate::values::{CONSTANT, CONTEXT, kind_of};
-use pack::{Counts, list_item, list_len};
+use crate::values::kind_of;
+use pack::{Counts, ValueKind, list_item, list_len};
 use tarjan::{Listing, list_of};
 
 // Whether v is a context value or reaches one.
@@ -26,7 +26,7 @@ fn determine_uses_context(
     if visited[v as usize] {
         return false;
     }
-    if kind_of(pack, c, v) == CONTEXT {
+    if kind_of(pack, c, v) == ValueKind::Context as u32 {
         return true;
     }
     visited[v as usize] = true;
@@ -59,7 +59,7 @@ fn constant_uses_context(
     requires { InRange pack.now c × Sized visited.old × (v < c.values) }
     ensures { Asks pack.now c visited.old v result visited.new }
 {
-    kind_of(pack, c, v) == CONSTANT && determine_uses_context(pack, c, visited, v)
+    kind_of(pack, c, v) == ValueKind::Constant as u32 && determine_uses_context(pack, c, visited, v)
 }
 
 // 52: the smallest constant that reaches a context value.

@@ -4,15 +4,15 @@ ghost use Rattle.tarjan.specs.Search.{Sorted};
 ghost use Rattle.tarjan.specs.Values.{InRange, capacity};
 ghost use Rattle.value_cycle.specs.Order.{lists_itself_in, is_looped_in, self_at, loop_at, looped_at, Finds};
 
-use crate::values::{CONSTANT, contains, kind_of};
-use pack::Counts;
+use crate::values::{contains, kind_of};
+use pack::{Counts, ValueKind};
 use tarjan::{Listing, list_of};
 
 // Whether v is a constant that lists itself.
 fn lists_itself(pack: &[u8], c: Counts, v: u32) -> bool
     ensures { result ≡ lists_itself_in pack.now c v }
 {
-    kind_of(pack, c, v) == CONSTANT && contains(pack, c, list_of(pack, c, v), v)
+    kind_of(pack, c, v) == ValueKind::Constant as u32 && contains(pack, c, list_of(pack, c, v), v)
 }
 
 // 50: the smallest constant that lists itself.
@@ -32,7 +32,7 @@ fn is_looped(pack: &[u8], c: Counts, listing: &Listing, v: u32) -> bool
     requires { v < capacity }
     ensures { result ≡ is_looped_in pack.now c listing.now.sizes v }
 {
-    kind_of(pack, c, v) == CONSTANT && 1 < listing.size_of(v)
+    kind_of(pack, c, v) == ValueKind::Constant as u32 && 1 < listing.size_of(v)
 }
 
 // 51: the first listed constant in a component of two or more.

@@ -6,11 +6,6 @@ ghost use Rattle.tarjan.specs.Values.{kind_of};
 
 use pack::{Counts, list_item, list_len, value_row};
 
-// Kinds, as the pack numbers them.
-pub const CONSTANT: u32 = 0;
-
-pub const CONTEXT: u32 = 2;
-
 pub fn kind_of(pack: &[u8], c: Counts, v: u32) -> u32
     ensures { result ≡ kind_of pack.now c v }
 {

@@ -8,7 +8,7 @@ use crate::context::context_check;
 use crate::recursive::{first_looped, first_self};
 use laws::{Fault, Refusal};
 use pack::Counts;
-use tarjan::{Search, tarjan};
+use tarjan::tarjan;
 
 pub fn find_compilation_order(pack: &[u8], c: Counts, area: &mut [u8]) -> Result<(), Refusal>
     requires { Orders pack.now c area.old }
@@ -17,8 +17,7 @@ pub fn find_compilation_order(pack: &[u8], c: Counts, area: &mut [u8]) -> Result
     if let Some(v) = first_self(pack, c) {
         return Err(Refusal::at(Fault::ReferencesItself, v));
     }
-    let mut search = Search::empty();
-    tarjan(pack, c, &mut search);
+    let search = tarjan(pack, c);
     if let Some(v) = first_looped(pack, c, &search.listing) {
         return Err(Refusal::at(Fault::OnLongerCycle, v));
     }

@@ -4,7 +4,7 @@ ghost use Rattle.std.specs.Prelude.{◌≡◌, replicate};
 ghost use Rattle.laws.specs.Bounded.{get, put};
 ghost use Rattle.words.specs.Notes.{nodes, note_of, code_noted, call_noted, diverges_noted, is_seen};
 
-use laws::flag;
+use laws::{get_at, put_at};
 
 // The facts of a note are packed into one number of 4 bytes, since there is one for each of 4,096 nodes.
 #[derive(Drop)]
@@ -39,7 +39,7 @@ impl Notes {
 pub fn note_of(diverges: bool, call: u32, code: u32) -> u32
     ensures { result ≡ note_of diverges call code }
 {
-    let bit = flag(diverges);
+    let bit = u32::from(diverges);
     Notes::SEEN + bit * Notes::DIVERGES + call % Notes::CALLS * Notes::CALL + code % Notes::CODES
 }
 
@@ -71,18 +71,14 @@ pub fn is_seen(note: u32) -> bool
     note / Notes::SEEN % 2 == 1
 }
 
-#[tactic(auto, unfolding(laws::specs::Bounded::get, laws::specs::Choice::pick))]
 pub fn note_at(notes: &[u32; Notes::CAPACITY], id: u32) -> u32
     ensures { result ≡ get nodes notes.now id }
 {
-    notes.get(id as usize).copied().unwrap_or(0)
+    get_at(notes, id)
 }
 
-#[tactic(auto, unfolding(laws::specs::Bounded::put, laws::specs::Choice::pick))]
 pub fn put_note(notes: &mut [u32; Notes::CAPACITY], id: u32, note: u32)
     ensures { notes.new ≡ put nodes notes.old id note }
 {
-    if (id as usize) < Notes::CAPACITY {
-        notes[id as usize] = note;
-    }
+    put_at(notes, id, note)
 }

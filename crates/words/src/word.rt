@@ -2,7 +2,6 @@
 ghost use Rattle.std.specs.Prelude.{◌≡◌};
 ghost use Rattle.words.specs.Words.{encode as encoded};
 
-use laws::flag;
 use unionfind::{number_of, tag_of};
 
 // Where each field starts; the number starts at the lowest bit.
@@ -16,7 +15,7 @@ const TAG: u32 = 67108864;
 pub fn encode(diverges: bool, call: u32, x: u32) -> u32
     ensures { result ≡ encoded diverges call x }
 {
-    let bit = flag(diverges);
+    let bit = u32::from(diverges);
     let tag = tag_of(x);
     let number = number_of(x);
     bit * DIVERGES + call % 4 * CALL + tag % 8 * TAG + number

@@ -5,7 +5,6 @@ use Rattle.trees.proofs.StepLaws.{used, stated, deep}
 use borrow.Author.Tests.{eq-eqb, ne_eqb}
 use Rattle.trees.specs.declared.node_test.NodeTest.TheVariants.{UsedOnce, LetStated, Shallow}
 use mathlib.Core.Path.{◌≡◌, ap, refl, sym, ◌∙◌}
-use native.Mathlib.Omega.{arith}
 use Rattle.formed.proofs.whole.node_fits.Goals as goal
 
 not_first : UsedOnce ≡ LetStated → ⊥
@@ -18,18 +17,18 @@ pub returns-in-UsedOnce : goal.returns-in-UsedOnce
 unfolding node_fits
 returns-in-UsedOnce c = rw c.in-UsedOnce.is (used _ _ (told c.args.notes.now) c.requires.1.noted _ c.requires.0)
 
-pub returns-then-row-eq-LET : goal.returns-then-row-eq-LET
+pub returns-then-row : goal.returns-then-row
 unfolding node_fits
-returns-then-row-eq-LET c =
+returns-then-row c =
     rw c.in-LetStated.is
-    (yes _ _ _ (eq-eqb _ _ (ap (λ r. r.kind) (sym c.expression_row-row.ensures) ∙ c.if-row-eq-LET.true))
+    (yes _ _ _ (eq-eqb _ _ (ap (λ r. r.kind) (sym c.expression_row-row.ensures) ∙ c.if-row.true))
     (stated _ _ (told c.args.notes.now) c.requires.1.noted _ c.requires.0 (c.requires.1.trees (λ h. not_first (sym h ∙ c.in-LetStated.is)))))
 
-pub returns-else-row-eq-LET : goal.returns-else-row-eq-LET
+pub returns-else-row : goal.returns-else-row
 unfolding node_fits
-returns-else-row-eq-LET c =
+returns-else-row c =
     rw c.in-LetStated.is
-    (no _ _ _ (ne_eqb _ _ (λ h. c.if-row-eq-LET.false (ap (λ r. r.kind) c.expression_row-row.ensures ∙ h))) refl)
+    (no _ _ _ (ne_eqb _ _ (λ h. c.if-row.false (ap (λ r. r.kind) c.expression_row-row.ensures ∙ h))) refl)
 
 pub returns-in-Shallow : goal.returns-in-Shallow
 unfolding node_fits

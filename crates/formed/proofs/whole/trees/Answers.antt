@@ -3,7 +3,7 @@ use Rattle.laws.specs.Faults.{passes}
 use Rattle.pack.proofs.CountLaws.{limited}
 use Rattle.formed.specs.Formed.{trees_of}
 use Rattle.formed.proofs.Ready.{at_first_test, past_first_test}
-use mathlib.Core.Path.{ap, sym, ◌∙◌}
+use mathlib.Core.Path.{ap, sym}
 use Rattle.formed.proofs.whole.trees.Goals as goal
 
 pub note_pack-requires : goal.note_pack-requires

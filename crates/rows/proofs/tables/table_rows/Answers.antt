@@ -1,8 +1,8 @@
 use Rattle.laws.proofs.First.{goes, stops, ends}
 use Rattle.laws.proofs.Answers.{at_fault, at_none}
 use Rattle.rows.proofs.RowLaws.{rows_most}
-use Rattle.rows.specs.Tables.{table_of}
-use mathlib.Core.Path.{refl, sym, ap, ◌∙◌}
+use Rattle.rows.specs.Tables.{table_number, table_of}
+use mathlib.Core.Path.{refl, ◌∙◌}
 use native.Mathlib.Omega.{arith}
 use Rattle.rows.proofs.tables.table_rows.Goals as goal
 
@@ -11,15 +11,15 @@ unfolding table_of
 loop-i-init c = record { says = refl }
 
 pub row_rule-requires : goal.row_rule-requires
-row_rule-requires c = (c.requires.0, omega (arith, rows_most c.args.c c.args.table c.requires.1, c.rows_in-n.ensures))
+row_rule-requires c = (c.requires.0, omega (arith, rows_most c.args.c (table_number c.args.table) c.requires.1, c.len-i-end.ensures))
 
 pub returns-in-Some : goal.returns-in-Some
 returns-in-Some c =
-    let f = at_fault _ c.loop-i.i c.args.table c.args.c c.in-Some.ensures in
-    rw c.from.ensures (f.1 ∙ stops c.loop-i.invariant (omega arith) f.0)
+    let f = at_fault _ c.loop-i.i (table_number c.args.table) c.args.c c.in-Some.ensures in
+    rw (c.from.ensures, c.number.ensures) (f.1 ∙ stops c.loop-i.invariant (omega arith) f.0)
 
 pub loop-i-preserved : goal.loop-i-preserved
-loop-i-preserved c = goes c.loop-i.invariant (omega arith) (at_none _ c.loop-i.i c.args.table c.args.c c.in_default.ensures)
+loop-i-preserved c = goes c.loop-i.invariant (omega arith) (at_none _ c.loop-i.i (table_number c.args.table) c.args.c c.in_default.ensures)
 
 pub returns : goal.returns
 returns c = ends c.loop-i.invariant (omega arith)

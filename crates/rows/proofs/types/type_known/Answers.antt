@@ -1,6 +1,6 @@
 use Rattle.laws.specs.Choice.{by_kind}
 use Rattle.pack.specs.Kinds.{type_number}
-use Rattle.rows.specs.Types.{primitive, type_known}
+use Rattle.rows.specs.Types.{type_known}
 use mathlib.Core.Path.{refl, ap, ◌∙◌}
 use Rattle.rows.proofs.types.type_known.Goals as goal
 

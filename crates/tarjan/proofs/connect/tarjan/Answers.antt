@@ -2,7 +2,7 @@ use Rattle.tarjan.proofs.Follows.{run_start, run_turn, run_end}
 use Rattle.tarjan.proofs.connect.tarjan.Goals as goal
 
 pub loop-v-init : goal.loop-v-init
-loop-v-init c = run_start c.requires.0 c.requires.1
+loop-v-init c = run_start c.requires c.empty-search.ensures
 
 pub follow-low-requires : goal.follow-low-requires
 follow-low-requires c = (c.loop-v-test.true, (c.loop-v.invariant.now_at, c.loop-v.invariant.holds))

@@ -1,7 +1,7 @@
 use Rattle.laws.specs.declared.fault.Fault.TheVariants as fault
 use Rattle.std.proofs.Common.{Ok}
 use Rattle.laws.proofs.First.{Left}
-use Rattle.pack.specs.Answer.{Reading, refuse}
+use Rattle.pack.specs.Answer.{refuse}
 use Rattle.type_cycle.specs.Cycles.{resolved, unresolved_of}
 use Rattle.type_cycle.proofs.UnresolvedLaws.{Walls}
 use Rattle.type_cycle.proofs.cycles.unresolved.Given as goal

@@ -13,14 +13,14 @@ any_uses_context-returns-then-determine_uses_context t c = search_found c.loop-k
 pub any_uses_context-returns : goal.any_uses_context-returns
 any_uses_context-returns t c = search_end c.loop-k.invariant c.loop-k-test.false
 
-pub determine_uses_context-returns-then-kind_of-eq-CONTEXT : goal.determine_uses_context-returns-then-kind_of-eq-CONTEXT
-determine_uses_context-returns-then-kind_of-eq-CONTEXT t c = is_context c.requires.1 (sym c.kind_of.ensures ∙ c.if-kind_of-eq-CONTEXT.true)
+pub determine_uses_context-returns-then-kind_of : goal.determine_uses_context-returns-then-kind_of
+determine_uses_context-returns-then-kind_of t c = is_context c.requires.1 (sym c.kind_of.ensures ∙ c.if-kind_of.true)
 
 pub determine_uses_context-any_uses_context-requires : goal.determine_uses_context-any_uses_context-requires
 determine_uses_context-any_uses_context-requires t c =
     let t = c.requires.0 in
     let u = c.if-visited-v.false in
-    let d = c.if-kind_of-eq-CONTEXT.false in
+    let d = c.if-kind_of.false in
     let e = c.list_of.ensures in
     let m = marking c.args.visited.now t c.requires.1 c.requires.2 u c.kind_of.ensures d e in
     (omega (arith, c.decreases, less m), (t, marked_sized m, refs_values t c.requires.2 e))
@@ -28,7 +28,7 @@ determine_uses_context-any_uses_context-requires t c =
 pub determine_uses_context-returns : goal.determine_uses_context-returns
 determine_uses_context-returns t c =
     let u = c.if-visited-v.false in
-    let d = c.if-kind_of-eq-CONTEXT.false in
+    let d = c.if-kind_of.false in
     let e = c.list_of.ensures in
     entered
     (marking c.args.visited.now c.requires.0 c.requires.1 c.requires.2 u c.kind_of.ensures d e)

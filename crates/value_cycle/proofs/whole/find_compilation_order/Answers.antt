@@ -13,7 +13,7 @@ pub returns-in-Some-context_check : goal.returns-in-Some-context_check
 returns-in-Some-context_check c = refused₅₂ c.requires c.in_default.ensures c.in_default-first_looped.ensures c.in-Some-context_check.ensures (ap Err c.at-in-Some-context_check.ensures)
 
 pub write_order-requires : goal.write_order-requires
-write_order-requires c = writes c.requires c.tarjan.ensures
+write_order-requires c = writes c.requires c.tarjan-search.ensures
 
 pub returns : goal.returns
-returns c = all_listed c.requires c.in_default.ensures c.in_default-first_looped.ensures c.in_default-context_check.ensures c.tarjan.ensures c.write_order.ensures
+returns c = all_listed c.requires c.in_default.ensures c.in_default-first_looped.ensures c.in_default-context_check.ensures c.tarjan-search.ensures c.write_order.ensures

@@ -12,11 +12,12 @@ use Rattle.expr.proofs.Kept.{after, coded_more, handed_on}
 use Rattle.expr.proofs.Keeps.{lent}
 use Rattle.expr.specs.Lent.{env_of}
 use Rattle.expr.proofs.Lists.{arms_end, arms_ended, arms_stop, arms_go, fields_end, fields_stop, fields_go, stmts_end, stmts_stop, stmts_go}
-use Rattle.expr.proofs.Recursions.{expr_none, guard_none, guard_more, last_none, last_more, returned_none, returned_more, other_kind}
+use Rattle.expr.proofs.Recursions.{expr_none, guard_none, guard_more, last_none, last_more, returned_none, returned_more, unknown_kind}
 use Rattle.expr.proofs.Coding.{plan_coded, bool_coded, unit_coded, definition_coded}
 use Rattle.laws.proofs.Choice.{yes, no}
 use native.Mathlib.Omega.{arith}
 use Rattle.laws.specs.Choice.{pick}
+use Rattle.pack.specs.Kinds.{node_number}
 use Rattle.expr.proofs.state.State.+rules.Goals as goal
 
 -- ---- access_field
@@ -297,46 +298,49 @@ right-returns-in-Err-clause-ran t c = right_refuses (lent c.args.env.now c.requi
 
 -- ---- rule
 
-pub rule-returns-in-0-clause-ran : goal.rule-returns-in-0-clause-ran
-rule-returns-in-0-clause-ran t c = kind_is (lent c.args.env.now c.requires.0) c.requires.1 _ _ c.args.n c.in-0.is (unfold kind_rule pick in (c.literal.ensures.ran _ _ c.requires.0).same)
+pub rule-returns-in-Ok-Literal-clause-ran : goal.rule-returns-in-Ok-Literal-clause-ran
+rule-returns-in-Ok-Literal-clause-ran t c = kind_is (lent c.args.env.now c.requires.0) c.requires.1 _ _ c.args.n (c.in-Ok-Literal.ensures ∙ ap node_number c.in-Ok-Literal.field-0-is) (unfold kind_rule pick in (c.literal.ensures.ran _ _ c.requires.0).same)
 
-pub rule-returns-in-1-clause-ran : goal.rule-returns-in-1-clause-ran
-rule-returns-in-1-clause-ran t c = kind_is (lent c.args.env.now c.requires.0) c.requires.1 _ _ c.args.n c.in-1.is (unfold kind_rule pick in (c.slot.ensures.ran _ c.requires.0).same)
+pub rule-returns-in-Ok-Slot-clause-ran : goal.rule-returns-in-Ok-Slot-clause-ran
+rule-returns-in-Ok-Slot-clause-ran t c = kind_is (lent c.args.env.now c.requires.0) c.requires.1 _ _ c.args.n (c.in-Ok-Slot.ensures ∙ ap node_number c.in-Ok-Slot.field-0-is) (unfold kind_rule pick in (c.slot.ensures.ran _ c.requires.0).same)
 
-pub rule-returns-in-2-clause-ran : goal.rule-returns-in-2-clause-ran
-rule-returns-in-2-clause-ran t c = kind_is (lent c.args.env.now c.requires.0) c.requires.1 _ _ c.args.n c.in-2.is (unfold kind_rule pick in c.block.ensures.ran.same)
+pub rule-returns-in-Ok-Block-clause-ran : goal.rule-returns-in-Ok-Block-clause-ran
+rule-returns-in-Ok-Block-clause-ran t c = kind_is (lent c.args.env.now c.requires.0) c.requires.1 _ _ c.args.n (c.in-Ok-Block.ensures ∙ ap node_number c.in-Ok-Block.field-0-is) (unfold kind_rule pick in c.block.ensures.ran.same)
 
-pub rule-returns-in-4-clause-ran : goal.rule-returns-in-4-clause-ran
-rule-returns-in-4-clause-ran t c = kind_is (lent c.args.env.now c.requires.0) c.requires.1 _ _ c.args.n c.in-4.is (unfold kind_rule pick in c.match_expr.ensures.ran.same)
+pub rule-returns-in-Ok-Let-clause-ran : goal.rule-returns-in-Ok-Let-clause-ran
+rule-returns-in-Ok-Let-clause-ran t c = kind_is (lent c.args.env.now c.requires.0) c.requires.1 _ _ c.args.n (c.in-Ok-Let.ensures ∙ ap node_number c.in-Ok-Let.field-0-is) (unfold kind_rule pick in is (ap Err c.at.ensures))
 
-pub rule-returns-in-5-clause-ran : goal.rule-returns-in-5-clause-ran
-rule-returns-in-5-clause-ran t c = kind_is (lent c.args.env.now c.requires.0) c.requires.1 _ _ c.args.n c.in-5.is (unfold kind_rule pick in c.binop.ensures.ran.same)
+pub rule-returns-in-Ok-Match-clause-ran : goal.rule-returns-in-Ok-Match-clause-ran
+rule-returns-in-Ok-Match-clause-ran t c = kind_is (lent c.args.env.now c.requires.0) c.requires.1 _ _ c.args.n (c.in-Ok-Match.ensures ∙ ap node_number c.in-Ok-Match.field-0-is) (unfold kind_rule pick in c.match_expr.ensures.ran.same)
 
-pub rule-returns-in-6-clause-ran : goal.rule-returns-in-6-clause-ran
-rule-returns-in-6-clause-ran t c = kind_is (lent c.args.env.now c.requires.0) c.requires.1 _ _ c.args.n c.in-6.is (unfold kind_rule pick in c.record_fields.ensures.ran.same)
+pub rule-returns-in-Ok-Operator-clause-ran : goal.rule-returns-in-Ok-Operator-clause-ran
+rule-returns-in-Ok-Operator-clause-ran t c = kind_is (lent c.args.env.now c.requires.0) c.requires.1 _ _ c.args.n (c.in-Ok-Operator.ensures ∙ ap node_number c.in-Ok-Operator.field-0-is) (unfold kind_rule pick in c.binop.ensures.ran.same)
 
-pub rule-returns-in-7-clause-ran : goal.rule-returns-in-7-clause-ran
-rule-returns-in-7-clause-ran t c = kind_is (lent c.args.env.now c.requires.0) c.requires.1 _ _ c.args.n c.in-7.is (unfold kind_rule pick in c.access_field.ensures.ran.same)
+pub rule-returns-in-Ok-Record-clause-ran : goal.rule-returns-in-Ok-Record-clause-ran
+rule-returns-in-Ok-Record-clause-ran t c = kind_is (lent c.args.env.now c.requires.0) c.requires.1 _ _ c.args.n (c.in-Ok-Record.ensures ∙ ap node_number c.in-Ok-Record.field-0-is) (unfold kind_rule pick in c.record_fields.ensures.ran.same)
 
-pub rule-returns-in-8-clause-ran : goal.rule-returns-in-8-clause-ran
-rule-returns-in-8-clause-ran t c = kind_is (lent c.args.env.now c.requires.0) c.requires.1 _ _ c.args.n c.in-8.is (unfold kind_rule pick in c.return_expr.ensures.ran.same)
+pub rule-returns-in-Ok-Field-clause-ran : goal.rule-returns-in-Ok-Field-clause-ran
+rule-returns-in-Ok-Field-clause-ran t c = kind_is (lent c.args.env.now c.requires.0) c.requires.1 _ _ c.args.n (c.in-Ok-Field.ensures ∙ ap node_number c.in-Ok-Field.field-0-is) (unfold kind_rule pick in c.access_field.ensures.ran.same)
 
-pub rule-returns-in_default-clause-ran : goal.rule-returns-in_default-clause-ran
-rule-returns-in_default-clause-ran t c = meets_kind (lent c.args.env.now c.requires.0) _ c.requires.1 _ c.args.n _ (other_kind _ _ _ c.args.n _ _ _ c.in_default.in_default-own.rest (is (ap Err c.at.ensures)))
+pub rule-returns-in-Ok-Return-clause-ran : goal.rule-returns-in-Ok-Return-clause-ran
+rule-returns-in-Ok-Return-clause-ran t c = kind_is (lent c.args.env.now c.requires.0) c.requires.1 _ _ c.args.n (c.in-Ok-Return.ensures ∙ ap node_number c.in-Ok-Return.field-0-is) (unfold kind_rule pick in c.return_expr.ensures.ran.same)
+
+pub rule-returns-in-Err-clause-ran : goal.rule-returns-in-Err-clause-ran
+rule-returns-in-Err-clause-ran t c = meets_kind (lent c.args.env.now c.requires.0) _ c.requires.1 _ c.args.n _ (unknown_kind _ _ _ c.args.n _ _ _ c.in-Err.ensures (is (ap Err c.at-in-Err.ensures)))
 
 -- ---- stmt
 
-pub stmt-returns-then-n-eq-LET-clause-ran : goal.stmt-returns-then-n-eq-LET-clause-ran
-stmt-returns-then-n-eq-LET-clause-ran t c = stmt_let (lent c.args.env.now c.requires) _ _ c.expression_row-n.ensures c.if-n-eq-LET.true c.let_stmt.ensures.ran
+pub stmt-returns-then-n-clause-ran : goal.stmt-returns-then-n-clause-ran
+stmt-returns-then-n-clause-ran t c = stmt_let (lent c.args.env.now c.requires) _ _ c.expression_row-n.ensures c.if-n.true c.let_stmt.ensures.ran
 
 pub stmt-expr-requires : goal.stmt-expr-requires
 stmt-expr-requires t c = (search rules, ready_typed c.requires c.fresh_type.ensures c.in_ok-own.was)
 
 pub stmt-returns-in_err-own-clause-ran : goal.stmt-returns-in_err-own-clause-ran
-stmt-returns-in_err-own-clause-ran t c = handed_on c.from_residual.ensures.1 (stmt_none (lent c.args.env.now c.requires) _ _ c.expression_row-n.ensures c.if-n-eq-LET.false c.fresh_type.ensures c.in_err-own.was)
+stmt-returns-in_err-own-clause-ran t c = handed_on c.from_residual.ensures.1 (stmt_none (lent c.args.env.now c.requires) _ _ c.expression_row-n.ensures c.if-n.false c.fresh_type.ensures c.in_err-own.was)
 
 pub stmt-returns-clause-ran : goal.stmt-returns-clause-ran
-stmt-returns-clause-ran t c = stmt_is (lent c.args.env.now c.requires) _ _ c.expression_row-n.ensures c.if-n-eq-LET.false c.fresh_type.ensures c.in_ok-own.was c.expr.ensures.ran
+stmt-returns-clause-ran t c = stmt_is (lent c.args.env.now c.requires) _ _ c.expression_row-n.ensures c.if-n.false c.fresh_type.ensures c.in_ok-own.was c.expr.ensures.ran
 
 -- ---- stmts
 

@@ -1,10 +1,15 @@
 use Rattle.type_cycle.proofs.SkipLaws.{tier, visits_item, visits_passed}
 use native.Mathlib.Omega.{arith}
 use Rattle.type_cycle.proofs.VisitLaws.{nothing}
-use Rattle.type_cycle.proofs.StepLaws.{enters_type, mark_can, mark_falls, enum_types, record_types, no_types, variants_only, variant_inside, type_inside, visits_variant, visits_type, item_within, visited_can, whole_list, leaves_name, items_fields, part_types, name_ahead, quiet_ahead, variables_ahead, past_ahead}
-use mathlib.Core.Path.{ap}
+use Rattle.type_cycle.proofs.StepLaws.{enters_type, mark_can, mark_falls, enum_types, record_types, variants_only, variant_inside, type_inside, visits_variant, visits_type, item_within, visited_can, whole_list, leaves_name, items_fields, part_types, name_ahead, quiet_ahead}
+use mathlib.Core.Path.{ap, ◌∙◌}
+use Rattle.pack.specs.Kinds.{type_number, definition_number}
 use Rattle.laws.specs.Lists.{gather}
-use Rattle.type_cycle.specs.Graph.{at_name}
+use Rattle.type_cycle.specs.Graph.{at_name, row_ahead, unresolved}
+use Rattle.laws.specs.Choice.{by_kind}
+use Rattle.std.proofs.Common.{rules, ◌≡◌, [], ◌∷◌, true, false}
+use Rattle.std.specs.Prelude.{ltb, eqb}
+use borrow.Author.Tests.{eqb-false, ltb-true}
 use Rattle.type_cycle.proofs.search.Search.+visits.Goals as goal
 
 -- ---- visit
@@ -18,19 +23,16 @@ visit-returns-then-not-self-at t c = enters_type _ _ (omega (arith, c.requires.1
 -- ---- visit_fields
 
 pub visit_fields-visit_list-requires : goal.visit_fields-visit_list-requires
-visit_fields-visit_list-requires t c = (omega (arith, c.decreases), (rw (enum_types _ _ _ c.definition_of-row.ensures c.in-0.is) (c.requires.1.ready.fields _ c.requires.0), c.requires.1))
+visit_fields-visit_list-requires t c = (omega (arith, c.decreases), (rw (enum_types _ _ _ c.definition_of-row.ensures (c.in-Ok-Enum.ensures ∙ ap definition_number c.in-Ok-Enum.field-0-is)) (c.requires.1.ready.fields _ c.requires.0), c.requires.1))
 
-pub visit_fields-visit_list-requires-in-1 : goal.visit_fields-visit_list-requires-in-1
-visit_fields-visit_list-requires-in-1 t c = (omega (arith, c.decreases), (rw (record_types _ _ _ c.definition_of-row.ensures c.in-1.is) (c.requires.1.ready.fields _ c.requires.0), c.requires.1))
+pub visit_fields-visit_list-requires-in-Ok-Record : goal.visit_fields-visit_list-requires-in-Ok-Record
+visit_fields-visit_list-requires-in-Ok-Record t c = (omega (arith, c.decreases), (rw (record_types _ _ _ c.definition_of-row.ensures (c.in-Ok-Record.ensures ∙ ap definition_number c.in-Ok-Record.field-0-is)) (c.requires.1.ready.fields _ c.requires.0), c.requires.1))
 
-pub visit_fields-returns-in-0 : goal.visit_fields-returns-in-0
-visit_fields-returns-in-0 t c = rw (← enum_types _ _ _ c.definition_of-row.ensures c.in-0.is) c.visit_list.ensures
+pub visit_fields-returns-in-Ok-Enum : goal.visit_fields-returns-in-Ok-Enum
+visit_fields-returns-in-Ok-Enum t c = rw (← enum_types _ _ _ c.definition_of-row.ensures (c.in-Ok-Enum.ensures ∙ ap definition_number c.in-Ok-Enum.field-0-is)) c.visit_list.ensures
 
-pub visit_fields-returns-in-1 : goal.visit_fields-returns-in-1
-visit_fields-returns-in-1 t c = rw (← record_types _ _ _ c.definition_of-row.ensures c.in-1.is) c.visit_list-in-1.ensures
-
-pub visit_fields-returns-in_default : goal.visit_fields-returns-in_default
-visit_fields-returns-in_default t c = rw (← no_types _ _ _ c.definition_of-row.ensures ((tt, (λ e. omega arith)), (λ e. omega arith))) (nothing _)
+pub visit_fields-returns-in-Ok-Record : goal.visit_fields-returns-in-Ok-Record
+visit_fields-returns-in-Ok-Record t c = rw (← record_types _ _ _ c.definition_of-row.ensures (c.in-Ok-Record.ensures ∙ ap definition_number c.in-Ok-Record.field-0-is)) c.visit_list-in-Ok-Record.ensures
 
 -- ---- visit_item
 
@@ -78,19 +80,21 @@ visit_name-returns-then-not-self-at t c = leaves_name _ _ (omega (arith, c.requi
 -- ---- visit_row
 
 pub visit_row-visit_list-requires : goal.visit_row-visit_list-requires
-visit_row-visit_list-requires t c = (omega (arith, c.decreases), (rw (items_fields _ _ _) (c.requires.0.parts (omega arith)), c.requires.1))
+visit_row-visit_list-requires t c = (omega (arith, c.decreases), (rw (items_fields _ _ _) (c.requires.0.parts (c.in-Ok-Record.ensures ∙ ap type_number c.in-Ok-Record.field-0-is)), c.requires.1))
 
-pub visit_row-returns-in-4 : goal.visit_row-returns-in-4
-visit_row-returns-in-4 t c = rw (← name_ahead _ _ c.args.row c.in-4.is) c.visit_name.ensures
+pub visit_row-returns-in-Ok-Named : goal.visit_row-returns-in-Ok-Named
+visit_row-returns-in-Ok-Named t c = rw (← name_ahead _ _ c.args.row (c.in-Ok-Named.ensures ∙ ap type_number c.in-Ok-Named.field-0-is)) c.visit_name.ensures
 
-pub visit_row-returns-in-5 : goal.visit_row-returns-in-5
-visit_row-returns-in-5 t c = rw (← part_types _ _ c.args.row c.in-5.is) c.visit_list.ensures
+pub visit_row-returns-in-Ok-Record : goal.visit_row-returns-in-Ok-Record
+visit_row-returns-in-Ok-Record t c = rw (← part_types _ _ c.args.row (c.in-Ok-Record.ensures ∙ ap type_number c.in-Ok-Record.field-0-is)) c.visit_list.ensures
 
-pub visit_row-returns-then-kind-lt7 : goal.visit_row-returns-then-kind-lt7
-visit_row-returns-then-kind-lt7 t c = rw (← quiet_ahead _ _ c.args.row (λ e. omega arith) (λ e. omega arith) (omega arith)) (nothing _)
+pub visit_row-returns-in-Ok-Var : goal.visit_row-returns-in-Ok-Var
+unfolding row_ahead by_kind
+visit_row-returns-in-Ok-Var t c = let e : unresolved ∷ [] ≡ row_ahead c.args.pack.now c.args.c.now c.args.row = search rules in rw (← e) (c.visit_variable.ensures.visited _ _)
 
-pub visit_row-returns-in-7-to-10 : goal.visit_row-returns-in-7-to-10
-visit_row-returns-in-7-to-10 t c = rw (← variables_ahead _ _ c.args.row (omega arith) (omega arith)) (c.visit_variable.ensures.visited _ _)
-
-pub visit_row-returns-else-kind-lt11 : goal.visit_row-returns-else-kind-lt11
-visit_row-returns-else-kind-lt11 t c = rw (← past_ahead _ _ c.args.row (omega arith)) (nothing _)
+pub visit_row-returns : goal.visit_row-returns
+visit_row-returns t c =
+    let k : ltb c.args.row.kind 7 ≡ true = search rules in
+    let a : eqb c.args.row.kind 4 ≡ false = search rules in
+    let b : eqb c.args.row.kind 5 ≡ false = search rules in
+    rw (← quiet_ahead _ _ c.args.row (eqb-false _ _ a) (eqb-false _ _ b) (ltb-true _ _ k)) (nothing _)
