@@ -1,4 +1,7 @@
 // How far the text has been run: what the words so far said.
+ghost use Rattle.std.specs.Prelude.{◌≡◌, [], false, true, min, ◌+◌, ◌-◌, ◌^◌};
+ghost use Rattle.worked.specs.declared.state.Next.TheVariants.{Name};
+
 use crate::asks::{AREA, Asks};
 use stdio::{Buffer, Tally};
 
@@ -65,7 +68,12 @@ impl<'a> Run<'a> {
     }
 
     // A case of which nothing is known.
-    pub fn new_case(&mut self) {
+    pub fn new_case(&mut self)
+        ensures bytes { (self.new.pack ≡ []) × (self.new.listing ≡ []) }
+        ensures area { (self.new.in_area ≡ false) × (self.new.room ≡ 16400) }
+        ensures asked { self.new.asked ≡ false }
+        ensures rest { (self.new.line ≡ self.old.line) × (self.new.next ≡ self.old.next) × (self.new.name ≡ self.old.name) × (self.new.sums ≡ self.old.sums) × (self.new.all ≡ self.old.all) }
+    {
         self.pack.clear();
         self.listing.clear();
         self.in_area = false;
@@ -74,7 +82,13 @@ impl<'a> Run<'a> {
     }
 
     // A group whose name comes next.
-    pub fn new_group(&mut self) {
+    pub fn new_group(&mut self)
+        ensures begins { (self.new.sums.cases ≡ 0) × (self.new.sums.differ ≡ 0) }
+        ensures cases { self.new.all.cases ≡ min (self.old.all.cases + self.old.sums.cases) (2 ^ 64 - 1) }
+        ensures differ { self.new.all.differ ≡ min (self.old.all.differ + self.old.sums.differ) (2 ^ 64 - 1) }
+        ensures asks { (self.new.asked ≡ true) × (self.new.next ≡ Name) }
+        ensures rest { (self.new.line ≡ self.old.line) × (self.new.name ≡ self.old.name) × (self.new.pack ≡ self.old.pack) × (self.new.listing ≡ self.old.listing) × (self.new.in_area ≡ self.old.in_area) × (self.new.room ≡ self.old.room) }
+    {
         self.all = self.all.plus(self.sums);
         self.sums = Tally::none();
         self.asked = true;

@@ -1,6 +1,7 @@
 // Unify asked of two types, and held to what is wanted.
 ghost use Rattle.std.specs.Prelude.{◌≡◌, true};
 ghost use Rattle.unionfind.specs.Cells.{Knows, Live};
+ghost use Rattle.worked_cells.specs.Wants.{pair as pair_of};
 
 use crate::answers::is_answer;
 use crate::sides::HOLDING;
@@ -18,7 +19,9 @@ pub struct Pair {
 }
 
 impl Pair {
-    pub fn new(left: u32, right: u32) -> Pair {
+    pub fn new(left: u32, right: u32) -> Pair
+        ensures { result ≡ pair_of left right }
+    {
         Pair { left, right }
     }
 }

@@ -1,4 +1,8 @@
 // What is wanted of a pair that is unified.
+ghost use Rattle.std.specs.Prelude.{◌≡◌, IfSome, Some};
+ghost use Rattle.worked_cells.specs.declared.wants.Want.{Want as WantOf};
+ghost use Rattle.worked_cells.specs.Wants.{letter_of, answer_of, changes_of, after_of};
+
 use crate::answers::Wanted;
 use crate::pairs::Pair;
 use laws::{Fault, Refusal};
@@ -21,7 +25,10 @@ pub enum Want {
 
 impl Want {
     // What a letter wants, if it is one of these.
-    pub fn of(letter: u8) -> Option<Want> {
+    pub fn of(letter: u8) -> Option<Want>
+        ensures known { (w : WantOf) → letter_of w ≡ letter → result ≡ Some w }
+        ensures only { IfSome result (λ w. letter_of w ≡ letter) }
+    {
         match letter {
             b'=' => Some(Want::Same),
             b'<' => Some(Want::Left),
@@ -32,7 +39,9 @@ impl Want {
     }
 
     // The answer.
-    pub fn answer(self) -> Wanted {
+    pub fn answer(self) -> Wanted
+        ensures { result ≡ answer_of self }
+    {
         match self {
             Want::Clash => Some(Refusal::at(Fault::Mismatch, NODE)),
             Want::Same | Want::Left | Want::Right => None,
@@ -40,7 +49,9 @@ impl Want {
     }
 
     // How many cells change.
-    pub fn changes(self) -> usize {
+    pub fn changes(self) -> usize
+        ensures { result ≡ changes_of self }
+    {
         match self {
             Want::Left | Want::Right => 1,
             Want::Same | Want::Clash => 0,
@@ -48,7 +59,9 @@ impl Want {
     }
 
     // What the two stand for afterwards.
-    pub fn after(self, pair: Pair) -> Pair {
+    pub fn after(self, pair: Pair) -> Pair
+        ensures { result ≡ after_of self pair }
+    {
         match self {
             Want::Left => Pair::new(pair.right, pair.right),
             Want::Right => Pair::new(pair.left, pair.left),

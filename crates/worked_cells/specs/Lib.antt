@@ -1,0 +1,2 @@
+-- Definitions for the cases of this program.
+pub mod Wants
