@@ -1,4 +1,4 @@
-// The lines that the program prints.
+// The lines that the program prints, each piece of a line by a write of its own: where a write fails, all pieces before it are out.
 use crate::whole::Verdict;
 use laws::Refusal;
 use pack::Counts;
@@ -9,23 +9,27 @@ fn say_types(rt: &impl Print) -> io::Result<()> {
 }
 
 fn say_roots(rt: &impl Print, c: Counts) -> io::Result<()> {
-    let roots = c.roots;
-    println!(rt; "roots {roots}")
+    print!(rt; "roots ")?;
+    print!(rt; "{}", c.roots)?;
+    println!(rt; "")
 }
 
 fn say_refusal(rt: &impl Print, r: Refusal) -> io::Result<()> {
-    let number = r.fault.number();
-    let place = r.place;
-    let detail = r.detail;
-    println!(rt; "refused {number} {place} {detail}")
+    print!(rt; "refused ")?;
+    print!(rt; "{}", r.fault.number())?;
+    print!(rt; " ")?;
+    print!(rt; "{}", r.place)?;
+    print!(rt; " ")?;
+    print!(rt; "{}", r.detail)?;
+    println!(rt; "")
 }
 
 // The numbers of the values, which the area has in two bytes each.
 fn say_order(rt: &impl Print, c: Counts, area: &[u8]) -> io::Result<()> {
     print!(rt; "order")?;
     for pair in area.as_chunks::<2>().0.iter().take(c.values as usize) {
-        let value = u16::from_be_bytes(*pair);
-        print!(rt; " {value}")?;
+        print!(rt; " ")?;
+        print!(rt; "{}", u16::from_be_bytes(*pair))?;
     }
     println!(rt; "")
 }

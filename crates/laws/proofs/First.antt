@@ -4,7 +4,7 @@
 --     goes     a place that is right is passed
 --     stops    a place that is not is the answer
 --     ends     past the last place there is no fault
--- The same for a test of each place (AllLeft), and for rows whose rule gives the number of a fault, or 0 (RowsLeft).
+-- The same for a test of each place (AllLeft), and for rows by what each row's rule gives (RowsLeft).
 -- What an answer says of the places:
 --     each        where the answer passes and no fault would, each place is right
 --     none_is     and the other way round
@@ -18,12 +18,11 @@ use mathlib.Core.Bool.{Bool, true, false, ◌&&◌}
 use native.Mathlib.Numerals.{add-one}
 use native.Mathlib.Omega.{arith}
 use native.Mathlib.Nat.{add-zero}
-use lib.Dec.{eqb, leb}
+use lib.Dec.{leb}
 use borrow.Author.Tests.{leb-true, leb-false}
 use Rattle.laws.specs.Choice.{pick}
 use Rattle.laws.specs.First.{first, walk, all, until}
 use Rattle.laws.proofs.Choice.{yes, no, by_test, by_eq, fails}
-use Rattle.laws.proofs.Told.{eq, ne}
 
 pub record Left {A : Type 0} (ok : ℕ → Bool) (fault : ℕ → A) (none : A) (i n : ℕ) (whole : A) : Type 0 where
   pub says : first ok fault none i n ≡ whole
@@ -51,16 +50,16 @@ module _ {A : Type 0} {ok : ℕ → Bool} {fault : ℕ → A} {none : A} {i n : 
 abbrev pub AllLeft : (ℕ → Bool) → ℕ → ℕ → Bool → Type 0
 AllLeft ok i n whole = Left ok (λ k. false) true i n whole
 
--- what is left of a table from row i on says what the whole says; x is what the row's function returned
-pub record RowsLeft {A : Type 0} (rule : ℕ → ℕ) (fault : ℕ → A) (none : A) (i n : ℕ) (whole : A) : Type 0 where
-  pub left : Left (λ k. eqb (rule k) 0) fault none i n whole
+-- what is left of a table from row i on says what the whole says; x is what the row's function returned, and ok whether it passes
+pub record RowsLeft {X A : Type 0} (ok : ℕ → X → Bool) (rule : ℕ → X) (fault : ℕ → A) (none : A) (i n : ℕ) (whole : A) : Type 0 where
+  pub left : Left (λ k. ok k (rule k)) fault none i n whole
 
-module _ {A : Type 0} {rule : ℕ → ℕ} {fault : ℕ → A} {none : A} {i n : ℕ} {whole : A} (inv : RowsLeft rule fault none i n whole) where
-  pub row_goes : {x : ℕ} → i < n → x ≡ rule i → x ≡ 0 → RowsLeft rule fault none (i + 1) n whole
-  row_goes l e z = record { left = goes inv.left l (eq e refl z) }
+module _ {X A : Type 0} {ok : ℕ → X → Bool} {rule : ℕ → X} {fault : ℕ → A} {none : A} {i n : ℕ} {whole : A} (inv : RowsLeft ok rule fault none i n whole) where
+  pub row_goes : {x : X} → i < n → x ≡ rule i → ok i x ≡ true → RowsLeft ok rule fault none (i + 1) n whole
+  row_goes l e t = record { left = goes inv.left l (sym (ap (ok i) e) ∙ t) }
 
-  pub row_stops : {x : ℕ} → i < n → x ≡ rule i → (x ≡ 0 → ⊥) → fault i ≡ whole
-  row_stops l e z = stops inv.left l (ne e refl z)
+  pub row_stops : {x : X} → i < n → x ≡ rule i → ok i x ≡ false → fault i ≡ whole
+  row_stops l e f = stops inv.left l (sym (ap (ok i) e) ∙ f)
 
   pub row_ends : n ≤ i → none ≡ whole
   row_ends l = ends inv.left l

@@ -18,7 +18,6 @@ use Rattle.operators.specs.Names.{call_number}
 use Rattle.operators.specs.Operators.{Plan, string_code, ip_addr_code, bool_code, prefix_code, u8_code, u32_code, no_call, prefix_new, accepted, refused, compared, divided, remainder, power, operator_plan}
 use Rattle.operators.specs.declared.plan.OperatorPlan.{OperatorPlan}
 use Rattle.std.proofs.Common.{Ok, Err}
-use Rattle.laws.specs.declared.fault.Fault.{Fault}
 use Rattle.laws.specs.declared.fault.Fault.TheVariants.{NotNumeric, NotInteger}
 use Rattle.operators.proofs.Plans.{plan_all}
 

@@ -1,5 +1,6 @@
 // The names that document 01 gives to primitives, operators and calls.
-ghost use Rattle.std.specs.Prelude.{◌≡◌};
+ghost use Rattle.std.specs.Prelude.{◌≡◌, ◌<◌};
+ghost use Rattle.unionfind.specs.Codes.{numbers};
 ghost use Rattle.operators.specs.Names.{primitive_number, op_of, call_number};
 ghost use Rattle.operators.specs.Operators.{primitive_code};
 
@@ -24,6 +25,14 @@ pub enum Primitive {
     U64 = 15,
     F32 = 16,
     F64 = 17,
+}
+
+impl Primitive {
+    pub fn code(self) -> u32
+        ensures { result ≡ primitive_code (primitive_number self) }
+    {
+        primitive_code(self as u32)
+    }
 }
 
 // The operators, by their numbers.
@@ -87,9 +96,10 @@ pub fn call_number(call: Option<Call>) -> u32
     }
 }
 
-// The code of a primitive type.
-pub fn primitive_code(k: Primitive) -> u32
-    ensures { result ≡ primitive_code (primitive_number k) }
+// The code of the primitive type of that number.
+pub fn primitive_code(k: u32) -> u32
+    requires { k < numbers }
+    ensures { result ≡ primitive_code k }
 {
-    code_of(Tag::PRIMITIVE, k as u32)
+    code_of(Tag::PRIMITIVE, k)
 }

@@ -2,7 +2,7 @@
 ghost use Rattle.std.specs.Prelude.{◌≡◌};
 ghost use Rattle.operators.specs.Operators.{logical, compared, equated, number, added, divided, remainder, power, operator_plan};
 
-use crate::names::{Call, Op, Primitive, primitive_code};
+use crate::names::{Call, Op, Primitive};
 use crate::plan::{OperatorPlan, accept};
 use laws::Fault;
 use unify::{is_int_type, is_numeric_type};
@@ -11,7 +11,7 @@ use unify::{is_int_type, is_numeric_type};
 fn logical_plan() -> Result<OperatorPlan, Fault>
     ensures { result ≡ logical }
 {
-    let truth = primitive_code(Primitive::Bool);
+    let truth = Primitive::Bool.code();
     accept(truth, truth, None)
 }
 
@@ -30,7 +30,7 @@ fn compared_plan(own: u32, left: u32) -> Result<OperatorPlan, Fault>
 fn equated_plan(own: u32) -> Result<OperatorPlan, Fault>
     ensures { result ≡ equated own }
 {
-    accept(own, primitive_code(Primitive::Bool), None)
+    accept(own, Primitive::Bool.code(), None)
 }
 
 // Sub, Mul, and what Add, Div and Exp are else.
@@ -49,7 +49,7 @@ fn number_plan(own: u32, left: u32) -> Result<OperatorPlan, Fault>
 fn added_plan(own: u32, left: u32, list: bool) -> Result<OperatorPlan, Fault>
     ensures { result ≡ added left list own }
 {
-    if left == primitive_code(Primitive::String) {
+    if left == Primitive::String.code() {
         accept(own, own, Some(Call::StringAppend))
     } else if list {
         accept(own, own, Some(Call::ListConcat))
@@ -62,9 +62,9 @@ fn added_plan(own: u32, left: u32, list: bool) -> Result<OperatorPlan, Fault>
 fn divided_plan(own: u32, left: u32) -> Result<OperatorPlan, Fault>
     ensures { result ≡ divided left own }
 {
-    if left == primitive_code(Primitive::IpAddr) {
-        let bits = primitive_code(Primitive::U8);
-        let prefix = primitive_code(Primitive::Prefix);
+    if left == Primitive::IpAddr.code() {
+        let bits = Primitive::U8.code();
+        let prefix = Primitive::Prefix.code();
         accept(bits, prefix, Some(Call::PrefixNew))
     } else {
         number_plan(own, left)
@@ -87,7 +87,7 @@ fn power_plan(own: u32, left: u32) -> Result<OperatorPlan, Fault>
     ensures { result ≡ power left own }
 {
     if is_int_type(left) {
-        accept(primitive_code(Primitive::U32), own, None)
+        accept(Primitive::U32.code(), own, None)
     } else {
         number_plan(own, left)
     }

@@ -2,7 +2,7 @@
 --     met      it passed: what follows counts
 --     unmet    it failed: its refusal stands
 -- Assumes nothing.
-use mathlib.Core.Path.{◌≡◌, sym, ap, ◌∙◌}
+use mathlib.Core.Path.{◌≡◌, ap}
 use mathlib.Core.Bool.{Bool}
 use Rattle.std.proofs.Common.{Ok, Err}
 use Rattle.laws.specs.Faults.{need}

@@ -10,10 +10,10 @@ use Rattle.pack.specs.declared.kinds.DefinitionKind.TheVariants as definition
 use Rattle.pack.specs.declared.kinds.NodeKind.TheVariants as node
 use Rattle.pack.specs.declared.kinds.ValueKind.TheVariants as value
 
--- n is the number of the kind that was found; where none was, n is past all of them
+-- n is the number of the kind that was found; where none was, n is past all of them, and the answer has it
 abbrev pub Decodes : {K : Type 0} → (K → ℕ) → ℕ → ℕ → Result K UnknownKind → Type 0
 Decodes number limit n (Ok kind) = n ≡ number kind
-Decodes number limit n (Err e) = limit ≤ n
+Decodes number limit n (Err e) = (limit ≤ n) × (e.0 ≡ n)
 
 abbrev pub type_number : TypeKind → ℕ
 type_number type.Never = 0

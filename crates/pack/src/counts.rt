@@ -45,12 +45,10 @@ impl Counts {
     pub fn in_limits(self) -> bool
         ensures { result ≡ in_limits self }
     {
-        self.types <= Counts::MAX_TYPES
-            && self.definitions <= Counts::MAX_DEFINITIONS
-            && self.expressions <= Counts::MAX_EXPRESSIONS
-            && self.roots <= Counts::MAX_ROOTS
-            && self.values <= Counts::MAX_VALUES
-            && self.words <= Counts::MAX_WORDS
+        let rows = self.types <= Counts::MAX_TYPES && self.definitions <= Counts::MAX_DEFINITIONS;
+        let trees = self.expressions <= Counts::MAX_EXPRESSIONS && self.roots <= Counts::MAX_ROOTS;
+        let lists = self.values <= Counts::MAX_VALUES && self.words <= Counts::MAX_WORDS;
+        rows && trees && lists
     }
 }
 

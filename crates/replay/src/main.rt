@@ -13,6 +13,7 @@
 mod asks;
 mod cases;
 mod digits;
+mod lines;
 mod run;
 
 use crate::run::run_all;

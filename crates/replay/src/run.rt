@@ -2,6 +2,7 @@
 use crate::asks::is_recorded;
 use crate::cases::first_case;
 use crate::digits::decode;
+use crate::lines::{differs, sums};
 use std::io;
 use stdio::{Buffer, Tally};
 
@@ -19,12 +20,11 @@ fn run_in(rt: &impl Print, bytes: &[u8]) -> io::Result<()> {
         let ok = is_recorded(&case);
         tally.count(ok);
         if !ok {
-            let n = tally.cases;
-            println!(rt; "case {n} differs")?;
+            differs(rt, tally.cases)?;
         }
         rest = after;
     }
-    println!(rt; "{tally}")
+    sums(rt, tally)
 }
 
 pub(crate) fn run_all(rt: &impl Print, text: &[u8]) -> io::Result<()> {

@@ -7,7 +7,7 @@ use Prim.Native.Nat.{ℕ, ◌+◌, ◌*◌, ◌/◌, ◌%◌, ◌<◌, ◌≤◌
 use native.Mathlib.Omega.{arith}
 use lib.Dec.{eqb, leb}
 use borrow.Author.Tests.{leb-true, eq-eqb, ne_eqb}
-use Rattle.std.proofs.Math.Nat.{mul-le-mul_left, mul-suc}
+use Rattle.std.proofs.Math.Nat.{mul-le-mul_left, mul-suc, mul-add}
 use Rattle.laws.specs.Bounded.{get}
 use Rattle.laws.proofs.First.{all_true}
 use Rattle.laws.proofs.Tests.{all_same}
@@ -45,6 +45,12 @@ within_is s sort e t = leb-true (s / 2 + 1 + span_of sort) words (sym e ∙ t)
 -- a step before the last one
 pub steps : (step m n : ℕ) → m < n → step * m + step ≤ step * n
 steps step m n h = let l : m + 1 ≤ n = omega arith in let q = mul-le-mul_left step l in omega (arith, q, mul-suc step m)
+
+-- a word of a run that starts `from` words further on
+pub run_at : (look : List ℕ) (a step from m : ℕ) → eqb (get looks look (a + step * from + step * m) % 2) 0 ≡ eqb (get looks look (a + step * (from + m)) % 2) 0
+run_at look a step from m =
+    let e : a + step * from + step * m ≡ a + step * (from + m) = omega (arith, mul-add step from m) in
+    ap (λ (x : ℕ). eqb (get looks look x % 2) 0) e
 
 -- ---- two lists compared
 

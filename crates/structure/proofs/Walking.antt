@@ -4,16 +4,18 @@ use mathlib.Core.Path.{◌≡◌, refl, sym, ap, ◌∙◌}
 use mathlib.Core.List.{List}
 use Prim.Native.Nat.{ℕ, ◌+◌, ◌*◌, ◌/◌, ◌%◌, ◌<◌, ◌≤◌}
 use native.Mathlib.Omega.{arith}
-use Rattle.std.specs.Prelude.{Option, None, Some}
+use Rattle.std.specs.Prelude.{Option, None, Some, MatchOption}
 use lib.ListN.{get_or}
 use borrow.Author.Tests.{eqb-true}
 use Rattle.laws.specs.Bounded.{Reads}
 use Rattle.laws.proofs.Bounded.{get_in}
 use Rattle.structure.specs.Structure.{rows}
-use Rattle.structure.specs.Table.{entry, has_key, Hit}
+use Rattle.structure.specs.Table.{entry}
 use Rattle.structure.specs.Buckets.{buckets, bucket_of, head_at}
-use Rattle.structure.specs.Tree.{cells_len, cell_at, place_of, own_of, member_key, Step, passes, turns, Leads, here, more, Small, Shape, Passing, Passed, Turned, Walked}
+use Rattle.structure.specs.Tree.{cells_len, cell_at, place_of, own_of, member_key, Step, passes, turns, Leads, here, more, Small, Shape, Stopped, Forked, Passed, Turned, Walked}
 use Rattle.structure.specs.Words.{look_at}
+use Rattle.structure.specs.declared.tree.Other.{Other}
+use Rattle.structure.specs.declared.tree.Ahead.{Ahead}
 use Rattle.structure.specs.declared.finding.Found.TheVariants.{Fork}
 use Rattle.unionfind.proofs.Chains.{not_both}
 use borrow.Author.Tests.{eq-eqb}
@@ -36,30 +38,39 @@ pub leads_join : {v : ℕ → ℕ} {cells tests keys : List ℕ} {d k e l f m : 
 leads_join here s = s
 leads_join (more t r) s = more t (leads_join r s)
 
-module _ (v : ℕ → ℕ) (cells tests : List ℕ) (d : ℕ) where
-  -- by what the array of tests has for the fork at cell d
-  module _ {g test x : ℕ} (e : cell_at cells d ≡ g + 1) (h : g < rows) (t : test ≡ get_or tests g 0) (s : x ≡ v (test / 65536)) where
-    test_at : test ≡ entry tests g
-    test_at = t ∙ get_in rows tests g h
+-- by what the array of tests has for a fork
+value_at : (v : ℕ → ℕ) (tests : List ℕ) {g test x : ℕ} → g < rows → test ≡ get_or tests g 0 → x ≡ v (test / 65536) → x ≡ v (place_of tests g)
+value_at v tests {g = g} h t s = s ∙ ap (λ (y : ℕ). v (y / 65536)) (t ∙ get_in rows tests g h)
 
-    value_at : x ≡ v (place_of tests g)
-    value_at = s ∙ ap (λ (y : ℕ). v (y / 65536)) test_at
+own_at : (tests : List ℕ) {g test : ℕ} → g < rows → test ≡ get_or tests g 0 → test % 65536 ≡ own_of tests g
+own_at tests {g = g} h t = ap (λ (y : ℕ). y % 65536) (t ∙ get_in rows tests g h)
 
-    own_at : test % 65536 ≡ own_of tests g
-    own_at = ap (λ (y : ℕ). y % 65536) test_at
+pub own_is : (v : ℕ → ℕ) (tests : List ℕ) {g test x : ℕ} → g < rows → test ≡ get_or tests g 0 → x ≡ v (test / 65536) → x ≡ test % 65536 → v (place_of tests g) ≡ own_of tests g
+own_is v tests h t s q = sym (value_at v tests h t s) ∙ q ∙ own_at tests h t
 
-    pub passing_own : x ≡ test % 65536 → Passing v cells tests d (Some g)
-    passing_own q = (e, sym value_at ∙ q ∙ own_at)
+pub stopped_at : (v : ℕ → ℕ) (cells tests : List ℕ) (d : ℕ) {g test x : ℕ} → g < rows → test ≡ get_or tests g 0 → x ≡ v (test / 65536)
+    → cell_at cells d ≡ g + 1 → (x ≡ test % 65536 → ⊥) → Stopped v cells tests d (Some (record { fork = g; value = x }))
+stopped_at v cells tests d h t s e n = let z = value_at v tests h t s in (e, z, λ u. n (z ∙ u ∙ sym (own_at tests h t)))
 
-    pub passing_other : (x ≡ test % 65536 → ⊥) → Passing v cells tests d None
-    passing_other n k f u = let w : k ≡ g = omega (arith, e, f) in n (value_at ∙ rw w at u ∙ sym own_at)
+-- the member of the fork at cell d that has the list's value, or that it has none
+abbrev pub Member : (ℕ → ℕ) → List ℕ → List ℕ → List ℕ → ℕ → ℕ → Option ℕ → Type 0
+Member v cells tests keys i d r =
+    MatchOption r
+    ((g : ℕ) → cell_at cells d ≡ g + 1 → (k : ℕ) → k < i → entry keys k ≡ member_key g (v (place_of tests g)) → ⊥)
+    (λ l. (l < i) × ((g : ℕ) × (cell_at cells d ≡ g + 1) × (entry keys l ≡ member_key g (v (place_of tests g)))))
 
-    pub turned_fork : (keys : List ℕ) (i : ℕ) {key : ℕ} (r : Option ℕ) → key ≡ member_key g x → Hit (has_key keys key) i r → Turned v cells tests keys i d r
-    turned_fork keys i {key = key} None q hit =
-        λ k f j l m.
-        let w : k ≡ g = omega (arith, e, f) in
-        not_both (hit j l) (eq-eqb (entry keys j) key (rw w at m ∙ ap (member_key g) (sym value_at) ∙ sym q))
-    turned_fork keys i {key = key} (Some l) q hit = (hit.0, (g, e, eqb-true (entry keys l) key hit.1 ∙ q ∙ ap (member_key g) value_at))
+module _ (v : ℕ → ℕ) (cells tests keys : List ℕ) (i d : ℕ) where
+  pub turned_is : (o : Option Other) (r : Option ℕ) → Stopped v cells tests d o → Turned keys i o r → Member v cells tests keys i d r
+  turned_is None r s t = rw t (λ g e k l m. absurd (omega (arith, s, e)))
+  turned_is (Some f) None s t =
+      λ g e k l m.
+      let w : g ≡ f.fork = omega (arith, e, s.0) in
+      not_both (t k l) (eq-eqb (entry keys k) _ (rw w at m ∙ ap (member_key f.fork) (sym s.1)))
+  turned_is (Some f) (Some l) s t = (t.0, (f.fork, s.0, eqb-true (entry keys l) _ t.1 ∙ ap (member_key f.fork) s.1))
+
+pub other_is : (v : ℕ → ℕ) (cells tests : List ℕ) (d : ℕ) (o : Option Other) → Stopped v cells tests d o → (g : ℕ) → cell_at cells d ≡ g + 1 → v (place_of tests g) ≡ own_of tests g → ⊥
+other_is v cells tests d None s g e u = omega (arith, s, e)
+other_is v cells tests d (Some f) s g e u = let w : g ≡ f.fork = omega (arith, e, s.0) in s.2 (rw w at u)
 
 -- ---- passing on
 
@@ -73,19 +84,19 @@ pub record Passes (v : ℕ → ℕ) (cells tests : List ℕ) (d e : ℕ) : Type 
 pub passes_none : {v : ℕ → ℕ} {cells tests : List ℕ} {d : ℕ} → d < cells_len → Passes v cells tests d d
 passes_none h = record { leads = λ keys k. here; inside = h; high = omega arith; top = λ i b t. t }
 
-module _ (v : ℕ → ℕ) (cells tests : List ℕ) (from d g : ℕ) (small : Small cells) (inside : d < cells_len) (p : Passing v cells tests d (Some g)) where
+module _ (v : ℕ → ℕ) (cells tests : List ℕ) (from d g : ℕ) (small : Small cells) (inside : d < cells_len) (p : cell_at cells d ≡ g + 1) where
   pub cell_rises : d < 2 * g + 1
-  cell_rises = omega (arith, small.rise d g inside p.0)
+  cell_rises = omega (arith, small.rise d g inside p)
 
   pub cell_inside : 2 * g + 1 < cells_len
-  cell_inside = omega (arith, small.high d, p.0)
+  cell_inside = omega (arith, small.high d, p)
 
-  pub passes_on : Passes v cells tests from d → Passes v cells tests from (2 * g + 1)
-  passes_on l = record {
-    leads = λ keys k. leads_on (l.leads keys k) (passes g p.0 p.1 refl refl);
+  pub passes_on : v (place_of tests g) ≡ own_of tests g → Passes v cells tests from d → Passes v cells tests from (2 * g + 1)
+  passes_on q l = record {
+    leads = λ keys k. leads_on (l.leads keys k) (passes g p q refl refl);
     inside = cell_inside;
     high = omega (arith, l.high, cell_rises);
-    top = λ i b t. omega (arith, b d, p.0);
+    top = λ i b t. omega (arith, b d, p);
   }
 
 -- ---- the whole walk
@@ -100,7 +111,7 @@ pub record Going (v : ℕ → ℕ) (cells tests keys : List ℕ) (i from d k : �
   pub other : (g : ℕ) → cell_at cells d ≡ g + 1 → v (place_of tests g) ≡ own_of tests g → ⊥
 
 module _ {v : ℕ → ℕ} {cells tests keys : List ℕ} {i from : ℕ} (shape : Shape cells keys i) where
-  module _ {d k l : ℕ} (g : Going v cells tests keys i from d k) (t : Turned v cells tests keys i d (Some l)) where
+  module _ {d k l : ℕ} (g : Going v cells tests keys i from d k) (t : Member v cells tests keys i d (Some l)) where
     -- the member comes after its fork, which comes after the row
     pub later : k < l
     later =
@@ -110,17 +121,17 @@ module _ {v : ℕ → ℕ} {cells tests keys : List ℕ} {i from : ℕ} (shape :
         let e : bucket_of (entry keys l) ≡ t.1.0 = ap bucket_of t.1.2 ∙ key_fork t.1.0 _ y in
         omega (arith, g.low)
 
-    pub going_on : {e : ℕ} → Passed v cells tests (2 * l) e → Going v cells tests keys i from e l
-    going_on {e = e} p = record {
+    pub going_on : {a : Ahead} → Passed v cells tests (2 * l) a → Going v cells tests keys i from a.cell l
+    going_on {a = a} p = record {
       leads = leads_join (leads_on g.leads (turns t.1.0 t.1.1 (g.other _ t.1.1) (omega (arith, t.0, shape.most)) t.1.2 refl)) (p.leads keys l);
       inside = p.inside;
       below = t.0;
       low = let q = p.high in omega arith;
       top = p.top i shape.below (omega (arith, t.0));
-      other = p.other;
+      other = other_is v cells tests a.cell a.other p.stopped;
     }
 
-  pub walked : {d k : ℕ} → Going v cells tests keys i from d k → Turned v cells tests keys i d None → Walked v cells tests keys i from (record { cell = d; row = k })
+  pub walked : {d k : ℕ} → Going v cells tests keys i from d k → Member v cells tests keys i d None → Walked v cells tests keys i from (record { cell = d; row = k })
   walked g t = record {
     leads = g.leads;
     inside = g.inside;
@@ -129,8 +140,9 @@ module _ {v : ℕ → ℕ} {cells tests keys : List ℕ} {i from : ℕ} (shape :
     ends = λ z n e. record { fork = e; other = g.other n e; none = t n e };
   }
 
-pub passed : {v : ℕ → ℕ} {cells tests : List ℕ} {d e : ℕ} → Passes v cells tests d e → Passing v cells tests e None → Passed v cells tests d e
-passed l p = record { leads = l.leads; inside = l.inside; high = l.high; top = l.top; other = p }
+pub passed : {v : ℕ → ℕ} {cells tests : List ℕ} {d e : ℕ} (o : Option Other) → Passes v cells tests d e → Stopped v cells tests e o → Forked o
+    → Passed v cells tests d (record { cell = e; other = o })
+passed o l p f = record { leads = l.leads; inside = l.inside; high = l.high; top = l.top; stopped = p; forked = f }
 
 -- ---- what is found
 

@@ -11,12 +11,14 @@ use Rattle.laws.specs.Bounded.{get}
 use Rattle.pack.specs.Rows.{type_row}
 use Rattle.structure.specs.Structure.{rows}
 use Rattle.structure.specs.Lists.{words, slot_of, Within, Spot}
-use Rattle.structure.specs.Table.{entry}
+use Rattle.structure.specs.Table.{entry, has_key, Hit}
 use Rattle.structure.specs.Buckets.{buckets, bucket_of, Chained}
 use Rattle.structure.specs.Words.{look_at, SameWord}
 use Rattle.structure.specs.declared.finding.Found.{Found}
 use Rattle.structure.specs.declared.finding.Found.TheVariants.{Same, Loose, Root, Member, Fork}
 use Rattle.structure.specs.declared.tree.Stop.{Stop}
+use Rattle.structure.specs.declared.tree.Other.{Other}
+use Rattle.structure.specs.declared.tree.Ahead.{Ahead}
 use Rattle.structure.specs.declared.tree.ListTrees.{ListTrees}
 
 abbrev pub cells_len : ℕ
@@ -72,25 +74,28 @@ pub record Shape (cells keys : List ℕ) (i : ℕ) : Type 0 where
   pub low : (l : ℕ) → l < i → bucket_of (entry keys l) ≤ l
   pub below : (d : ℕ) → cell_at cells d ≤ i
 
--- the fork at cell d, if there is one and the list has the row's own value there
-abbrev pub Passing : (ℕ → ℕ) → List ℕ → List ℕ → ℕ → Option ℕ → Type 0
-Passing v cells tests d r =
-    MatchOption r ((g : ℕ) → cell_at cells d ≡ g + 1 → v (place_of tests g) ≡ own_of tests g → ⊥) (λ g. (cell_at cells d ≡ g + 1) × (v (place_of tests g) ≡ own_of tests g))
+-- a list no longer passes on at cell d: there is no fork, or it has another value there than the row
+abbrev pub Stopped : (ℕ → ℕ) → List ℕ → List ℕ → ℕ → Option Other → Type 0
+Stopped v cells tests d o =
+    MatchOption o (cell_at cells d ≡ 0)
+    (λ f. (cell_at cells d ≡ f.fork + 1) × (f.value ≡ v (place_of tests f.fork)) × (v (place_of tests f.fork) ≡ own_of tests f.fork → ⊥))
 
--- passed on from cell d to e
-pub record Passed (v : ℕ → ℕ) (cells tests : List ℕ) (d e : ℕ) : Type 0 where
-  pub leads : (keys : List ℕ) (k : ℕ) → Leads v cells tests keys d k e k
-  pub inside : e < cells_len
-  pub high : d ≤ e
-  pub top : (i : ℕ) → ((x : ℕ) → cell_at cells x ≤ i) → d / 2 < i → e / 2 < i
-  pub other : (g : ℕ) → cell_at cells e ≡ g + 1 → v (place_of tests g) ≡ own_of tests g → ⊥
+-- a fork is a row, and a value a word
+abbrev pub Forked : Option Other → Type 0
+Forked o = MatchOption o Unit (λ f. (f.fork < rows) × (f.value < 65536))
 
--- the member to turn to at cell d
-abbrev pub Turned : (ℕ → ℕ) → List ℕ → List ℕ → List ℕ → ℕ → ℕ → Option ℕ → Type 0
-Turned v cells tests keys i d r =
-    MatchOption r
-    ((g : ℕ) → cell_at cells d ≡ g + 1 → (k : ℕ) → k < i → entry keys k ≡ member_key g (v (place_of tests g)) → ⊥)
-    (λ l. (l < i) × ((g : ℕ) × (cell_at cells d ≡ g + 1) × (entry keys l ≡ member_key g (v (place_of tests g)))))
+-- passed on from cell d to where it stops
+pub record Passed (v : ℕ → ℕ) (cells tests : List ℕ) (d : ℕ) (a : Ahead) : Type 0 where
+  pub leads : (keys : List ℕ) (k : ℕ) → Leads v cells tests keys d k a.cell k
+  pub inside : a.cell < cells_len
+  pub high : d ≤ a.cell
+  pub top : (i : ℕ) → ((x : ℕ) → cell_at cells x ≤ i) → d / 2 < i → a.cell / 2 < i
+  pub stopped : Stopped v cells tests a.cell a.other
+  pub forked : Forked a.other
+
+-- the member to turn to at that fork
+abbrev pub Turned : List ℕ → ℕ → Option Other → Option ℕ → Type 0
+Turned keys i o r = MatchOption o (r ≡ None) (λ f. Hit (has_key keys (member_key f.fork f.value)) i r)
 
 -- the walk from row k on ends at cell d of row l
 pub record Walked (v : ℕ → ℕ) (cells tests keys : List ℕ) (i k : ℕ) (r : Stop) : Type 0 where

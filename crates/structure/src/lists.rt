@@ -70,9 +70,12 @@ pub fn list_held(pack: &[u8], c: Counts, marks: &[u32; TypeTable::CAPACITY], s: 
     false
 }
 
+// How many words are looked at together.
+const RUN: usize = 128;
+
 // Whether one of the n words from a on, STEP words from one to the next, names a marked type: those that do are counted, with no way out of
 // the loop, so that several are taken at a time.
-fn any_held<const STEP: usize>(look: &[u16; TypeTable::LOOKS], a: usize, n: usize) -> bool
+fn run_held<const STEP: usize>(look: &[u16; TypeTable::LOOKS], a: usize, n: usize) -> bool
     requires { (a + STEP * n < looks + STEP) × (n ≤ looks) }
     ensures { result ≡ odd_from look.now (λ m. a + STEP * m) n }
 {
@@ -81,6 +84,20 @@ fn any_held<const STEP: usize>(look: &[u16; TypeTable::LOOKS], a: usize, n: usiz
         odd += look[a + STEP * m] % 2;
     }
     odd != 0
+}
+
+// Whether one of them does, run by run: the first run that has a marked type ends it.
+fn any_held<const STEP: usize>(look: &[u16; TypeTable::LOOKS], a: usize, n: usize) -> bool
+    requires { (a + STEP * n < looks + STEP) × (n ≤ looks) }
+    ensures { result ≡ odd_from look.now (λ m. a + STEP * m) n }
+{
+    for r in 0..(n + RUN - 1) / RUN {
+        let from = RUN * r;
+        if run_held::<STEP>(look, a + STEP * from, RUN.min(n - from)) {
+            return true;
+        }
+    }
+    false
 }
 
 // Whether a type of the list is marked, by what is known of its words.

@@ -5,7 +5,7 @@ ghost use Rattle.laws.specs.Bounded.{Reads};
 ghost use Rattle.structure.specs.Words.{look_at};
 ghost use Rattle.structure.specs.Table.{Link};
 ghost use Rattle.structure.specs.Buckets.{Chained};
-ghost use Rattle.structure.specs.Tree.{cells_len, sorts, cell_at, member_key, Small, Shape, Sound, Bare, Passing, Passed, Turned, Walked};
+ghost use Rattle.structure.specs.Tree.{cells_len, sorts, cell_at, member_key, Small, Sound, Bare, Passed, Forked, Turned, Walked};
 
 use crate::buckets::Chains;
 use crate::table::{TypeTable, linked};
@@ -25,6 +25,20 @@ pub struct ListTrees {
 pub struct Stop {
     pub cell: u32,
     pub row: u32,
+}
+
+// A fork where a list has another value than the row.
+#[derive(Clone, Copy)]
+pub struct Other {
+    pub fork: u32,
+    pub value: u32,
+}
+
+// Where a list no longer passes on: at a cell without a fork, or at such a fork.
+#[derive(Clone, Copy)]
+pub struct Ahead {
+    pub cell: u32,
+    pub other: Option<Other>,
 }
 
 // The key of a fork's member with the value x.
@@ -64,48 +78,37 @@ impl ListTrees {
         linked(self.cells[d as usize])
     }
 
-    // The fork at cell d, if there is one and the list at s has the row's own value there.
-    fn passed_at(&self, look: &[u16; TypeTable::LOOKS], s: u32, d: u32) -> Option<u32>
-        requires { (d < cells_len) × Small self.now.cells }
-        ensures { Passing (look_at look.now s) self.now.cells self.now.tests d result }
-    {
-        match self.fork_at(d) {
-            None => None,
-            Some(g) => {
-                let test = self.tests[g as usize];
-                if look_at(look, s, place_of(test)) == test % 65536 {
-                    Some(g)
-                } else {
-                    None
-                }
-            }
-        }
-    }
-
-    // The first cell from `from` on where the list at s does not pass on.
-    fn pass_on(&self, look: &[u16; TypeTable::LOOKS], s: u32, from: u32) -> u32
+    // From a cell on, past each fork where the list at s has the row's own value.
+    fn pass_on(&self, look: &[u16; TypeTable::LOOKS], s: u32, from: u32) -> Ahead
         requires { (from < cells_len) × Small self.now.cells }
         ensures { Passed (look_at look.now s) self.now.cells self.now.tests from result }
     {
-        let mut d = from;
-        while let Some(g) = self.passed_at(look, s, d) {
-            d = 2 * g + 1;
+        let mut cell = from;
+        while let Some(fork) = self.fork_at(cell) {
+            let test = self.tests[fork as usize];
+            let value = look_at(look, s, place_of(test));
+            if value != test % 65536 {
+                return Ahead {
+                    cell,
+                    other: Some(Other { fork, value }),
+                };
+            }
+            cell = 2 * fork + 1;
         }
-        d
+        Ahead { cell, other: None }
     }
 
-    // The member of the fork at cell d that has the value of the list at s.
-    fn turn_at(&self, look: &[u16; TypeTable::LOOKS], i: u32, s: u32, d: u32) -> Option<u32>
-        requires { (d < cells_len) × (i ≤ rows) × Small self.now.cells × Chained self.now.members i }
-        ensures { Turned (look_at look.now s) self.now.cells self.now.tests self.now.members.keys i d result }
+    // The member of the fork ahead that has the list's value there.
+    fn turn_at(&self, i: u32, ahead: Ahead) -> Option<u32>
+        requires { (i ≤ rows) × Chained self.now.members i × Forked ahead.other }
+        ensures { Turned self.now.members.keys i ahead.other result }
     {
-        match self.fork_at(d) {
+        match ahead.other {
             None => None,
-            Some(g) => {
-                let test = self.tests[g as usize];
-                let x = look_at(look, s, place_of(test));
-                let head = self.members.heads[g as usize];
-                self.members.row_from(i, member_key(g, x), head)
+            Some(other) => {
+                let head = self.members.heads[other.fork as usize];
+                self.members
+                    .row_from(i, member_key(other.fork, other.value), head)
             }
         }
     }
@@ -117,11 +120,14 @@ impl ListTrees {
         ensures { Walked (look_at look.now s) self.now.cells self.now.tests self.now.members.keys i k result }
     {
         let mut row = k;
-        let mut cell = self.pass_on(look, s, 2 * k);
-        while let Some(l) = self.turn_at(look, i, s, cell) {
+        let mut ahead = self.pass_on(look, s, 2 * k);
+        while let Some(l) = self.turn_at(i, ahead) {
             row = l;
-            cell = self.pass_on(look, s, 2 * l);
+            ahead = self.pass_on(look, s, 2 * l);
         }
-        Stop { cell, row }
+        Stop {
+            cell: ahead.cell,
+            row,
+        }
     }
 }

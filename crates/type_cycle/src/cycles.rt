@@ -95,6 +95,10 @@ pub fn detect_type_cycles(pack: &[u8], c: Counts) -> Result<Counts, Refusal>
     requires { (in_limits c ≡ true) × (passes (rows_of pack.now c) ≡ true) }
     ensures { result ≡ type_cycles_of pack.now c }
 {
+    // Without definitions there is nothing to look for, and no table to clear.
+    if c.definitions == 0 {
+        return Ok(c);
+    }
     unresolved(pack, c)?;
     cycle(pack, c)
 }

@@ -4,22 +4,12 @@ ghost use Rattle.worked.specs.Answers.{numbers_of};
 
 use laws::Refusal;
 use pack::Counts;
-use std::fmt;
 
 #[derive(Clone, Copy, PartialEq)]
 pub struct Answer {
     pub number: u64,
     pub place: u64,
     pub detail: u64,
-}
-
-impl fmt::Display for Answer {
-    fn fmt<W: fmt::Write>(&self, f: &mut fmt::Formatter<W>) -> fmt::Result {
-        let number = self.number;
-        let place = self.place;
-        let detail = self.detail;
-        write!(f, "{number} {place} {detail}")
-    }
 }
 
 pub(crate) fn numbers_of(reading: Result<Counts, Refusal>) -> Answer

@@ -30,19 +30,45 @@ impl Asks {
     }
 }
 
-// What is answered, and written to the part of the result area that is lent.
-pub(crate) fn answer(asks: Asks, pack: &[u8], area: &mut [u8]) -> Answer {
-    let mut place = OLD_PLACE;
-    let mut detail = OLD_DETAIL;
-    let number = match asks {
-        Asks::Formed => return numbers_of(formed(pack)),
-        Asks::Types => rulepack_types(pack, &mut place, &mut detail),
-        Asks::Root(root) => rulepack_root(pack, root, area, &mut place, &mut detail),
-        Asks::Order => rulepack_order(pack, area, &mut place, &mut detail),
-    };
+fn answer_of(number: u32, place: u32, detail: u64) -> Answer {
     Answer {
         number: number as u64,
         place: place as u64,
         detail: detail,
+    }
+}
+
+// The entries' frames are large: each has one of its own, so that no other word pays for it.
+#[inline(never)]
+fn types_of(pack: &[u8]) -> Answer {
+    let mut place = OLD_PLACE;
+    let mut detail = OLD_DETAIL;
+    let number = rulepack_types(pack, &mut place, &mut detail);
+    answer_of(number, place, detail)
+}
+
+#[inline(never)]
+fn root_of(pack: &[u8], root: u64, area: &mut [u8]) -> Answer {
+    let mut place = OLD_PLACE;
+    let mut detail = OLD_DETAIL;
+    let number = rulepack_root(pack, root, area, &mut place, &mut detail);
+    answer_of(number, place, detail)
+}
+
+#[inline(never)]
+fn order_of(pack: &[u8], area: &mut [u8]) -> Answer {
+    let mut place = OLD_PLACE;
+    let mut detail = OLD_DETAIL;
+    let number = rulepack_order(pack, area, &mut place, &mut detail);
+    answer_of(number, place, detail)
+}
+
+// What is answered, and written to the part of the result area that is lent.
+pub(crate) fn answer(asks: Asks, pack: &[u8], area: &mut [u8]) -> Answer {
+    match asks {
+        Asks::Formed => numbers_of(formed(pack)),
+        Asks::Types => types_of(pack),
+        Asks::Root(root) => root_of(pack, root, area),
+        Asks::Order => order_of(pack, area),
     }
 }

@@ -106,13 +106,13 @@ fn put_hex<const N: usize>(digits: &[u8], buffer: &mut Buffer<N>) {
 
 // Writes the last bytes of a number.
 fn put_row<const N: usize>(row: u128, size: usize, buffer: &mut Buffer<N>) {
-    let bytes = row.to_be_bytes();
-    for byte in bytes.iter().skip(MAX_ROW.saturating_sub(size)) {
-        buffer.push(*byte);
+    for k in (0..size.min(MAX_ROW)).rev() {
+        buffer.push(((row >> (8 * k)) & 0xff) as u8);
     }
 }
 
 // Writes what a word said comes, as much of it as there is room for.
+#[inline(never)]
 pub(crate) fn put<const N: usize>(bytes: Bytes<'_>, buffer: &mut Buffer<N>) {
     match bytes {
         Bytes::Same(times, digits) => {

@@ -23,9 +23,11 @@
 mod answers;
 mod asks;
 mod build;
+mod lines;
 mod run;
 mod state;
 
+use crate::lines::too_long;
 use crate::run::run_all;
 use std::io;
 use std::io::Read;
@@ -40,7 +42,7 @@ fn run_input(rt: &impl Print, input: &mut impl Read, text: &mut [u8; MAX_TEXT]) 
     if n < MAX_TEXT {
         run_all(rt, &text[..n])
     } else {
-        println!(rt; "the text is too long")
+        too_long(rt)
     }
 }
 

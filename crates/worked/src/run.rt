@@ -2,6 +2,7 @@
 use crate::answers::Answer;
 use crate::asks::{AREA, Asks, FILL, answer};
 use crate::build::{bytes_of, number, put};
+use crate::lines::{area_differs, differs, group_sums, not_understood, nothing_asked, sums};
 use crate::state::{Next, Run, Wanted};
 use std::io;
 
@@ -10,8 +11,7 @@ impl<'a> Run<'a> {
     fn fault(&mut self, rt: &impl Print) -> io::Result<()> {
         self.next = Next::Any;
         self.sums.one_differs();
-        let line = self.line;
-        println!(rt; "line {line}: not understood")
+        not_understood(rt, self.line)
     }
 
     // So does a case that ends with nothing asked of it.
@@ -20,8 +20,7 @@ impl<'a> Run<'a> {
             return Ok(());
         }
         self.sums.one_differs();
-        let line = self.line;
-        println!(rt; "line {line}: the case before asks nothing")
+        nothing_asked(rt, self.line)
     }
 
     fn case(&mut self, rt: &impl Print) -> io::Result<()> {
@@ -34,9 +33,7 @@ impl<'a> Run<'a> {
     fn group(&mut self, rt: &impl Print) -> io::Result<()> {
         self.end_case(rt)?;
         if let Some(name) = self.name {
-            let sums = self.sums;
-            rt.write_all(name)?;
-            println!(rt; ": {sums}")?;
+            group_sums(rt, name, self.sums)?;
         }
         self.new_group();
         Ok(())
@@ -48,8 +45,7 @@ impl<'a> Run<'a> {
             self.fault(rt)?;
         }
         self.group(rt)?;
-        let all = self.all;
-        println!(rt; "{all}")
+        sums(rt, self.all)
     }
 
     // A word that has to be bytes of the pack or of the result area.
@@ -117,8 +113,26 @@ impl<'a> Run<'a> {
         self.hold(rt, asks, wanted)
     }
 
-    // Holds the answer to what is wanted. An area that is written has to begin with what is listed, and all else of it stays.
+    // Holds the answer to what is wanted.
     fn hold(&mut self, rt: &impl Print, asks: Asks, wanted: Answer) -> io::Result<()> {
+        if asks.writes() {
+            return self.hold_written(rt, asks, wanted);
+        }
+        let came = answer(asks, self.pack.bytes(), &mut []);
+        self.hold_answer(rt, wanted, came)
+    }
+
+    fn hold_answer(&mut self, rt: &impl Print, wanted: Answer, came: Answer) -> io::Result<()> {
+        if came == wanted {
+            return Ok(());
+        }
+        self.sums.one_differs();
+        differs(rt, self.line, wanted, came)
+    }
+
+    // Holds the area as well. It has to begin with what is listed, and all else of it stays.
+    #[inline(never)]
+    fn hold_written(&mut self, rt: &impl Print, asks: Asks, wanted: Answer) -> io::Result<()> {
         let mut after = [FILL; AREA];
         for (byte, listed) in after.iter_mut().zip(self.listing.bytes()) {
             *byte = *listed;
@@ -126,16 +140,11 @@ impl<'a> Run<'a> {
         let mut area = [FILL; AREA];
         let room = self.room.min(AREA);
         let came = answer(asks, self.pack.bytes(), &mut area[..room]);
-        let line = self.line;
-        if came != wanted {
-            self.sums.one_differs();
-            return println!(rt; "line {line}: wanted {wanted}, came {came}");
+        if came != wanted || area == after {
+            return self.hold_answer(rt, wanted, came);
         }
-        if asks.writes() && area != after {
-            self.sums.one_differs();
-            return println!(rt; "line {line}: the result area differs");
-        }
-        Ok(())
+        self.sums.one_differs();
+        area_differs(rt, self.line)
     }
 
     fn word(&mut self, rt: &impl Print, word: &'a [u8]) -> io::Result<()> {
@@ -156,6 +165,10 @@ impl<'a> Run<'a> {
     // The words of the next line, but for those of its comment.
     fn line(&mut self, rt: &impl Print, text: &'a [u8]) -> io::Result<()> {
         self.line = self.line.saturating_add(1);
+        // An empty line has no words.
+        if text.is_empty() {
+            return Ok(());
+        }
         if let Some(words) = text.split(|b| *b == b'#').next() {
             for word in words.split(|b| *b == b' ').filter(|w| !w.is_empty()) {
                 self.word(rt, word)?;

@@ -326,7 +326,7 @@ pub rule-returns-in-Ok-Return-clause-ran : goal.rule-returns-in-Ok-Return-clause
 rule-returns-in-Ok-Return-clause-ran t c = kind_is (lent c.args.env.now c.requires.0) c.requires.1 _ _ c.args.n (c.in-Ok-Return.ensures ∙ ap node_number c.in-Ok-Return.field-0-is) (unfold kind_rule pick in c.return_expr.ensures.ran.same)
 
 pub rule-returns-in-Err-clause-ran : goal.rule-returns-in-Err-clause-ran
-rule-returns-in-Err-clause-ran t c = meets_kind (lent c.args.env.now c.requires.0) _ c.requires.1 _ c.args.n _ (unknown_kind _ _ _ c.args.n _ _ _ c.in-Err.ensures (is (ap Err c.at-in-Err.ensures)))
+rule-returns-in-Err-clause-ran t c = meets_kind (lent c.args.env.now c.requires.0) _ c.requires.1 _ c.args.n _ (unknown_kind _ _ _ c.args.n _ _ _ c.in-Err.ensures.0 (is (ap Err c.at-in-Err.ensures)))
 
 -- ---- stmt
 

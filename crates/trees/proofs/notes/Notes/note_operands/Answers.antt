@@ -45,4 +45,4 @@ pub returns-in-Ok-Return : goal.returns-in-Ok-Return
 returns-in-Ok-Return c = unfold row_operands by_kind in rw (c.in-Ok-Return.ensures ∙ ap node_number c.in-Ok-Return.field-0-is) (noting _ _ _ c.requires c.note_optional-in-Ok-Return.ensures.noted c.note_optional-in-Ok-Return.ensures.hops)
 
 pub returns-in-Err : goal.returns-in-Err
-returns-in-Err c = unfold row_operands in noting _ _ _ c.requires (note_nothing _ _ _ (past_rules _ _ _ _ c.in-Err.ensures)) refl
+returns-in-Err c = unfold row_operands in noting _ _ _ c.requires (note_nothing _ _ _ (past_rules _ _ _ _ c.in-Err.ensures.0)) refl
