@@ -38,8 +38,6 @@ fn answer_of(number: u32, place: u32, detail: u64) -> Answer {
     }
 }
 
-// The entries' frames are large: each has one of its own, so that no other word pays for it.
-#[inline(never)]
 fn types_of(pack: &[u8]) -> Answer {
     let mut place = OLD_PLACE;
     let mut detail = OLD_DETAIL;
@@ -47,7 +45,6 @@ fn types_of(pack: &[u8]) -> Answer {
     answer_of(number, place, detail)
 }
 
-#[inline(never)]
 fn root_of(pack: &[u8], root: u64, area: &mut [u8]) -> Answer {
     let mut place = OLD_PLACE;
     let mut detail = OLD_DETAIL;
@@ -55,7 +52,6 @@ fn root_of(pack: &[u8], root: u64, area: &mut [u8]) -> Answer {
     answer_of(number, place, detail)
 }
 
-#[inline(never)]
 fn order_of(pack: &[u8], area: &mut [u8]) -> Answer {
     let mut place = OLD_PLACE;
     let mut detail = OLD_DETAIL;

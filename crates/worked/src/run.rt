@@ -102,7 +102,8 @@ impl<'a> Run<'a> {
         Ok(())
     }
 
-    // What is asked is answered, if pack and area had room for all their bytes.
+    // What is asked is answered, if pack and area had room for all their bytes. The entries' frames are large, and lie in this one's.
+    #[inline(never)]
     fn ask(&mut self, rt: &impl Print, asks: Asks, wanted: Answer) -> io::Result<()> {
         if self.pack.is_full() || self.listing.is_full() {
             return self.fault(rt);
@@ -131,7 +132,6 @@ impl<'a> Run<'a> {
     }
 
     // Holds the area as well. It has to begin with what is listed, and all else of it stays.
-    #[inline(never)]
     fn hold_written(&mut self, rt: &impl Print, asks: Asks, wanted: Answer) -> io::Result<()> {
         let mut after = [FILL; AREA];
         for (byte, listed) in after.iter_mut().zip(self.listing.bytes()) {
